@@ -3,7 +3,7 @@ ghost use Rattle.std.specs.Prelude.{◌≡◌, ◌<◌, ◌+◌, ◌⊎◌, IfOk
 ghost use Rattle.dip_check_papers.specs.Checks.{IsJudgedNext, IsJudgedPaper, IsToldWrong};
 ghost use Rattle.dip_check_papers.specs.Games.{IsDraw, IsNotice};
 ghost use Rattle.dip_check_papers.specs.Printed.{first_line_of, title_words};
-ghost use Rattle.dip_desk_machine.specs.Ticking.{is_due};
+ghost use Rattle.dip_desk_games.specs.Ticking.{is_due};
 ghost use Rattle.dip_desk_state.specs.Bounds.{most_papers};
 ghost use Rattle.dip_desk_state.specs.Rows as rows;
 ghost use Rattle.dip_map.specs.Boards.{IsOf};
@@ -13,7 +13,7 @@ use dip_check_papers::{
     LAST_TICK, Verdict, Wanted, check_draw, check_notice, fault_at, first_line, other_line,
     phase_title, title_of,
 };
-use dip_desk_machine::is_due;
+use dip_desk_games::is_due;
 use dip_desk_state::{MOST_PAPERS, Public};
 use dip_map::Map;
 use std::alloc::{AllocError, Global};

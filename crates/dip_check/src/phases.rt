@@ -3,9 +3,9 @@ ghost use Rattle.std.specs.Prelude.{◌≡◌, ◌≤◌, ◌<◌, IfNone, IfOk,
 ghost use Rattle.dip_check_papers.specs.Checks.{IsJudgedNext, IsToldWrong, paper_at};
 ghost use Rattle.dip_check.specs.Phases.{IsComparedPhase, IsJudged, IsJudgedBy};
 ghost use Rattle.dip_check_papers.specs.Games.{IsPhase, IsPhaseOf};
-ghost use Rattle.dip_desk_machine.specs.Handing.{are_by_place};
-ghost use Rattle.dip_desk_machine.specs.Ticking as played;
-ghost use Rattle.dip_desk_machine.specs.Ticking.{is_due};
+ghost use Rattle.dip_desk_games.specs.ByPlace.{are_by_place};
+ghost use Rattle.dip_desk_games.specs.Ticking as played;
+ghost use Rattle.dip_desk_games.specs.Ticking.{is_due};
 ghost use Rattle.dip_desk_state.specs.Bounds.{most_papers};
 ghost use Rattle.dip_desk_state.specs.Records as records;
 ghost use Rattle.dip_desk_state.specs.Rows as rows;
@@ -16,7 +16,7 @@ use dip_check_papers::{
     Fault, LAST_TICK, Printed, Verdict, Wanted, are_given, fault_at, first_difference,
     orders_printed, tick_told,
 };
-use dip_desk_machine::{is_due, public_played};
+use dip_desk_games::{is_due, public_played};
 use dip_desk_state::{MOST_PAPERS, Public};
 use dip_map::{Board, Map};
 use dip_orders::{PlacedOrder, lawful_orders_are_read, orders_are_lawful, orders_are_read_again};

@@ -18,7 +18,7 @@ use Rattle.dip_http.specs.Serving.{Serves, TakesOne, VisitAll, Visits}
 use Rattle.dip_judge_runs.specs.Fresh.{fresh_desk}
 use Rattle.dip_judge_runs.specs.Runs.{AnswersAll, AnswersFront, Finds, TakesNext, letters_in}
 use Rattle.dip_check_papers.specs.Games.{AreOfGame}
-use Rattle.dip_check_papers.specs.Laws.{AreGames, StaysGames}
+use Rattle.dip_check_laws.specs.Published.{AreGames, StaysGames}
 use Rattle.dip_check_runs.specs.Runs.{AreFronts, IsGame, TellsIfGame}
 use Rattle.dip_check_laws.specs.Laws.{AreRuns, Leaves, LeavesAtFault, LeavesServing, Run}
 use Rattle.dip_check_laws.specs.Laws.Run.{Clients, Letters}

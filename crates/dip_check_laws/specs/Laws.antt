@@ -8,7 +8,7 @@ use Rattle.dip_http.specs.Serving.{Serves, TakesOne}
 use Rattle.dip_judge_runs.specs.Fresh.{fresh_desk}
 use Rattle.dip_judge_runs.specs.Runs.{AnswersAll, Stops, TakesNext}
 use Rattle.dip_judge_runs.specs.declared.run.RunFault.{RunFault}
-use Rattle.dip_check_papers.specs.Laws.{AreGames}
+use Rattle.dip_check_laws.specs.Published.{AreGames}
 use Rattle.dip_check_runs.specs.Runs.{IsGame, TellsIfGame}
 
 -- a run that a fault ended leaves the state after the letters that it answered, or that after the next letter too

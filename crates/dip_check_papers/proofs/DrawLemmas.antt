@@ -10,7 +10,7 @@ use Rattle.std.proofs.lemmas.Slice.Eq.{bytes_eq-Decides}
 use Rattle.dip_names.specs.Forms.{is_power_name, is_taken}
 use Rattle.dip_map.specs.Boards.{Position, are_ascending}
 use Rattle.dip_map.specs.Charts.{Chart, IsMap, is_centre, is_unit, power_of, powers, realm}
-use Rattle.dip_desk_machine.specs.Drawing.{public_drawn, survives}
+use Rattle.dip_desk_games.specs.Drawing.{public_drawn, survives}
 use Rattle.dip_desk_state.specs.Records.{For, Public}
 use Rattle.dip_desk_state.specs.Writable.{IsVoteOf}
 use Rattle.dip_reports.specs.Texts.{board_lines, draw_paper, game_line, paper_title, phase_text, status_text, terms_text}

@@ -11,8 +11,8 @@ use Rattle.dip_letters.specs.Notes.NoticeRequest.{Announce, Close, Pause, Period
 use Rattle.dip_letters.specs.Words.{has_length, is_text}
 use Rattle.dip_map.specs.Boards.{IsOf}
 use Rattle.dip_map.specs.Charts.{Chart}
-use Rattle.dip_desk_machine.specs.Noting.{is_announcement}
-use Rattle.dip_desk_machine.specs.Ticking.{is_over}
+use Rattle.dip_desk_games.specs.Noting.{is_announcement}
+use Rattle.dip_desk_games.specs.Ticking.{is_over}
 use Rattle.dip_desk_state.specs.Bounds.{most_papers}
 use Rattle.dip_desk_state.specs.Records.{Public}
 use Rattle.dip_names.specs.Forms.{is_printable}

@@ -36,8 +36,8 @@ use Rattle.dip_turn_papers.specs.Papers.{account_text, adjusted_lines, adjusted_
 use Rattle.dip_turn_papers.specs.declared.lines.Told.TheVariants.{Built, Removed, RemovedInDisorder}
 use Rattle.dip_turn_papers.specs.declared.lines.PaperLine.{PaperLine}
 use Rattle.dip_reports.specs.Texts.{board_lines, game_line}
-use Rattle.dip_desk_machine.specs.Handing.{are_by_place}
-use Rattle.dip_desk_machine.specs.Ticking.{is_due, is_running, public_played}
+use Rattle.dip_desk_games.specs.ByPlace.{are_by_place}
+use Rattle.dip_desk_games.specs.Ticking.{is_due, is_running, public_played}
 use Rattle.dip_check_papers.specs.Checks.{paper_at}
 use Rattle.dip_check_papers.specs.Games.{IsPhase, IsTick}
 use Rattle.dip_check_papers.specs.Laws.{order_printed}

@@ -12,10 +12,7 @@ pub mod OpeningLemmas
 pub mod OpeningLines
 pub mod Listed
 pub mod Coming
-pub mod Publishing
-pub mod Decided
 pub mod Reading
-pub mod Staying
 pub mod GameTexts
 pub mod OrderLines
 pub mod PaperParts

@@ -8,7 +8,7 @@ use Rattle.dip_map.specs.Charts.{are_units_single}
 use Rattle.dip_orders.specs.Given.{orders_of_power}
 use Rattle.dip_orders.specs.Standing.{units_of}
 use Rattle.dip_orders.specs.declared.placed.PlacedOrder.{PlacedOrder}
-use Rattle.dip_desk_machine.specs.Handing.{are_by_place, comes_before}
+use Rattle.dip_desk_games.specs.ByPlace.{are_by_place, comes_before}
 
 pub all_mapped : {A B : Type 0} (f : A → B) (p : B → Bool) (xs : List A) → list_all (λ x. p (f x)) xs ≡ true → AllByRecursion (λ y. p y ≡ true) (map f xs)
 all_mapped f p [] h = tt

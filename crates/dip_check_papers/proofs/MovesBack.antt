@@ -18,7 +18,7 @@ use Rattle.dip_turn.specs.Reports.{IsMoved}
 use Rattle.dip_turn_papers.specs.Papers.{moved_lines}
 use Rattle.dip_turn_papers.specs.declared.lines.PaperLine.{PaperLine}
 use Rattle.dip_turn.specs.declared.report.Movement.{Movement}
-use Rattle.dip_desk_machine.specs.Handing.{are_by_place, comes_before}
+use Rattle.dip_desk_games.specs.ByPlace.{are_by_place, comes_before}
 use Rattle.dip_check_papers.specs.Placing.{placed_by}
 use Rattle.dip_check_papers.proofs.Listed.{apart}
 use Rattle.dip_check_papers.proofs.Placing.{are_sorted, each_made, of_all, placed_each, placed_sorted, single_sorted}

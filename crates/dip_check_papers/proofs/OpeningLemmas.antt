@@ -5,7 +5,7 @@ use Rattle.std.specs.Str.{bytes_eq}
 use Rattle.dip_letters.specs.Words.{is_game}
 use Rattle.dip_map.specs.Boards.{IsOf, Position, opening}
 use Rattle.dip_map.specs.Charts.{Chart}
-use Rattle.dip_desk_machine.specs.Machine.{opening_public}
+use Rattle.dip_desk_games.specs.Opening.{opening_public}
 use Rattle.dip_desk_state.specs.Records.{Public}
 use Rattle.dip_reports.specs.Texts.{opening_paper, phase_text}
 use Rattle.dip_check_papers.specs.Games.{IsOpening}

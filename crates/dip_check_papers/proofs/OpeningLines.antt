@@ -4,7 +4,7 @@ use Rattle.std.specs.Str.{bytes_eq}
 use Rattle.std.proofs.lemmas.Bool.{cases_lt}
 use Rattle.std.proofs.lemmas.Slice.Eq.{bytes_eq-Decides}
 use Rattle.dip_map.specs.Charts.{Chart}
-use Rattle.dip_desk_machine.specs.Machine.{opening_public}
+use Rattle.dip_desk_games.specs.Opening.{opening_public}
 use Rattle.dip_desk_state.specs.Records.{Public}
 use Rattle.dip_reports.specs.Texts.{board_lines, game_line, opening_paper, paper_end, status_text}
 use Rattle.dip_check_papers.specs.Differing.{alike, first_other}

@@ -22,7 +22,7 @@ use Rattle.dip_turn.specs.Retreating.{after_retreat, after_retreats, at_refuge, 
 use Rattle.dip_turn.specs.declared.report.RetreatLine.{RetreatLine}
 use Rattle.dip_turn_papers.specs.Papers.{retreated_lines}
 use Rattle.dip_turn_papers.specs.declared.lines.PaperLine.{PaperLine}
-use Rattle.dip_desk_machine.specs.Handing.{are_by_place}
+use Rattle.dip_desk_games.specs.ByPlace.{are_by_place}
 use Rattle.dip_check_papers.specs.Laws.{order_printed}
 use Rattle.dip_check_papers.specs.Placing.{placed_by}
 use Rattle.dip_check_papers.proofs.MovesBack.{OrderLaws, can_be_given, come_by_place}

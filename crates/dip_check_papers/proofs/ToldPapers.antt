@@ -16,7 +16,7 @@ use Rattle.dip_turn.specs.declared.report.Course.{Course}
 use Rattle.dip_turn.specs.declared.report.Course.TheVariants.{GoesOn, Won, Ended}
 use Rattle.dip_turn.specs.declared.report.Report.{Report}
 use Rattle.dip_turn_papers.specs.Papers.{paper_text}
-use Rattle.dip_desk_machine.specs.Ticking.{due_after, public_played}
+use Rattle.dip_desk_games.specs.Ticking.{due_after, public_played}
 use Rattle.dip_desk_state.specs.Records.{Public}
 use Rattle.dip_check_papers.specs.Checks.{IsToldOf, paper_at}
 use Rattle.dip_check_papers.specs.Differing.{first_other}

@@ -35,7 +35,8 @@ use Rattle.dip_turn_papers.specs.declared.lines.PaperLine.{PaperLine}
 use Rattle.dip_turn_papers.specs.declared.lines.Told.TheVariants.{Built, Removed, RemovedInDisorder}
 use Rattle.dip_desk_state.specs.Records.{Public}
 use Rattle.dip_reports.specs.Texts.{game_line, phase_text, status_text, terms_text}
-use Rattle.dip_desk_machine.specs.Handing.{are_by_place, comes_before}
+use Rattle.dip_desk_games.specs.ByPlace.{are_by_place, comes_before}
+use Rattle.dip_desk_games.proofs.ListLemmas.{all_weaker}
 use Rattle.dip_check_papers.specs.Placing.{placed_by}
 use Rattle.dip_check_papers.specs.Printed.{build_line_at, may_follow, power_line_at, told_line_at, winter_line_at, winter_orders_at}
 use Rattle.dip_check_papers.proofs.LineLemmas.{AreAll, all_both, lacks_append, lacks_by}
@@ -43,7 +44,7 @@ use Rattle.dip_check_papers.proofs.MovesBack.{OrderLaws}
 use Rattle.dip_check_papers.proofs.NameTexts.{name_all, number_all}
 use Rattle.dip_check_papers.proofs.OrderLines.{line_is, line_one, line_words}
 use Rattle.dip_check_papers.proofs.OrderTexts.{is_told, low_no_lf, order_told, small_told, told_no_colon, told_no_lf}
-use Rattle.dip_check_papers.proofs.Placing.{each_append, each_made, each_weaker, first_among, map_append, map_flat, placed_map}
+use Rattle.dip_check_papers.proofs.Placing.{each_append, each_made, first_among, map_append, map_flat, placed_map}
 use Rattle.dip_check_papers.proofs.PaperParts.{flat_flat, map_map}
 use Rattle.dip_check_papers.proofs.WinterOrders.{all_at, order_to, told_are_given, told_orders}
 
@@ -260,7 +261,7 @@ each_flat P g (k ∷ ks) all = each_append P (g k) (flat_map g ks) (all k) (each
 
 range_low : (i n : ℕ) → AllByRecursion (λ k. k < i + n) (range_with_len i n)
 range_low i zero = tt
-range_low i (suc n) = (omega arith, each_weaker (λ k. k < i + 1 + n) (λ k. k < i + suc n) (range_with_len (i + 1) n) (λ k h. omega (arith, h)) (range_low (i + 1) n))
+range_low i (suc n) = (omega arith, all_weaker (λ k. k < i + 1 + n) (λ k. k < i + suc n) (range_with_len (i + 1) n) (λ k h. omega (arith, h)) (range_low (i + 1) n))
 
 -- the lines of a power's orders, by province, and the orders that they tell
 abbrev row : Chart → List PaperLine → ℕ → List PaperLine
@@ -356,7 +357,7 @@ module _ (l : OrderLaws) (m : Chart) (b : Position) (ps : List PlacedOrder) (law
     pub winter_read : (rest : List ℕ) → placed_by (λ (o : PlacedOrder). o.unit) m (map (λ (x : PaperLine). x.placed) ls) ≡ ps → read m b (adjusted_with m ls ds ws ++ rest) [] ≡ read m b rest ps
     winter_read rest same =
         let all : flat_map (told_by m ls) (powers m) ≡ ps = told_all ∙ same in
-        powers_read (powers m) [] [] rest (each_weaker (λ r. r < 0 + length m.realms) (λ r. r < length m.realms) (powers m) (λ r h. omega (arith, h)) (range_low 0 (length m.realms))) (append-nil (flat_map (told_by m ls) (powers m)) ∙ all)
+        powers_read (powers m) [] [] rest (all_weaker (λ r. r < 0 + length m.realms) (λ r. r < length m.realms) (powers m) (λ r h. omega (arith, h)) (range_low 0 (length m.realms))) (append-nil (flat_map (told_by m ls) (powers m)) ∙ all)
         ∙ ap (λ (os : List PlacedOrder). read m b rest os) all
 
 lines_told : (us vs : List AUnit) → map (λ (x : PaperLine). x.placed) (map (unit_line Build Built) us ++ map (unit_line Remove Removed) vs) ≡ map (order_to Build) us ++ map (order_to Remove) vs

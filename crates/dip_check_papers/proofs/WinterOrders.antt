@@ -23,7 +23,7 @@ use Rattle.dip_turn.proofs.MapLemmas.{AreEachLawful, come_of}
 use Rattle.dip_turn.proofs.PlaceLemmas.{built_unit}
 use Rattle.dip_turn.proofs.RefugeLemmas.{found_in}
 use Rattle.dip_turn.proofs.SingleLemmas.{kept_from, made_from, single_append, single_by_power, single_filtered, somebody}
-use Rattle.dip_desk_machine.specs.Handing.{are_by_place, comes_before}
+use Rattle.dip_desk_games.specs.ByPlace.{are_by_place, comes_before}
 use Rattle.dip_check_papers.specs.Placing.{placed_by}
 use Rattle.dip_check_papers.proofs.MovesBack.{come_by_place}
 use Rattle.dip_check_papers.proofs.Placing.{among_cases, among_filter, first_among, later_among, of_all, placed_among, placed_each}

@@ -6,10 +6,10 @@ use Rattle.dip_letters.specs.Notes.{NoticeRequest}
 use Rattle.dip_letters.specs.Notes.NoticeRequest.{Announce}
 use Rattle.dip_map.specs.Boards.{IsOf, Position}
 use Rattle.dip_map.specs.Charts.{Chart}
-use Rattle.dip_desk_machine.specs.Drawing.{survives}
-use Rattle.dip_desk_machine.specs.Handing.{are_by_place}
-use Rattle.dip_desk_machine.specs.Ticking.{public_played}
-use Rattle.dip_desk_machine.specs.Noting.{is_announcement, public_noted}
+use Rattle.dip_desk_games.specs.Drawing.{survives}
+use Rattle.dip_desk_games.specs.ByPlace.{are_by_place}
+use Rattle.dip_desk_games.specs.Ticking.{public_played}
+use Rattle.dip_desk_games.specs.Noting.{is_announcement, public_noted}
 use Rattle.dip_reports.specs.Texts.{notice_paper}
 use Rattle.dip_desk_state.specs.Records.{For, Public}
 use Rattle.dip_orders.specs.Given.{AreGiven}

@@ -15,11 +15,11 @@ use Rattle.dip_desk_state.specs.Bounds.{most_papers}
 use Rattle.dip_desk_state.specs.Records.{Public, For}
 use Rattle.dip_desk_state.specs.Writable.{IsVoteOf}
 use Rattle.dip_reports.specs.Texts.{draw_paper, notice_paper, opening_paper}
-use Rattle.dip_desk_machine.specs.Drawing.{public_drawn, survives}
-use Rattle.dip_desk_machine.specs.Handing.{are_by_place}
-use Rattle.dip_desk_machine.specs.Machine.{opening_public}
-use Rattle.dip_desk_machine.specs.Noting.{is_announcement, public_noted}
-use Rattle.dip_desk_machine.specs.Ticking.{is_due, is_over, public_played}
+use Rattle.dip_desk_games.specs.Drawing.{public_drawn, survives}
+use Rattle.dip_desk_games.specs.ByPlace.{are_by_place}
+use Rattle.dip_desk_games.specs.Opening.{opening_public}
+use Rattle.dip_desk_games.specs.Noting.{is_announcement, public_noted}
+use Rattle.dip_desk_games.specs.Ticking.{is_due, is_over, public_played}
 
 -- a tick that a letter may name, at which the game is due
 pub record IsTick (p : Public) (tick : ℕ) : Type 0 where

@@ -20,7 +20,7 @@ use Rattle.dip_orders.specs.Standing.{is_same_unit}
 use Rattle.dip_orders.specs.declared.placed.PlacedOrder.{PlacedOrder}
 use Rattle.dip_turn.specs.Reports.{IsPlayed}
 use Rattle.dip_turn.specs.declared.report.Report.{Report}
-use Rattle.dip_desk_machine.specs.Handing.{are_by_place}
+use Rattle.dip_desk_games.specs.ByPlace.{are_by_place}
 use Rattle.dip_check_papers.specs.Placing.{units_by_place}
 use Rattle.dip_check_papers.specs.declared.printed.Printed.{Printed}
 use Rattle.dip_check_papers.specs.declared.printed.Printed.TheVariants.{Orders, NoOrder}

@@ -3,7 +3,7 @@ use Rattle.std.specs.Prelude.{ℕ, ◌+◌, ◌&&◌, ◌||◌, Bool, false, Lis
 use Rattle.std.specs.Str.{bytes_eq}
 use Rattle.dip_map.specs.Boards.{Position}
 use Rattle.dip_map.specs.Charts.{Chart, powers, realm}
-use Rattle.dip_desk_machine.specs.Drawing.{survives}
+use Rattle.dip_desk_games.specs.Drawing.{survives}
 use Rattle.dip_desk_state.specs.Records.{Public}
 use Rattle.dip_reports.specs.Texts.{paper_title, phase_text}
 

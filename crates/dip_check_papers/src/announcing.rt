@@ -2,7 +2,7 @@
 ghost use Rattle.std.specs.Prelude.{◌≡◌, ◌++◌, ◌<◌, IfOk, OnOk, [], map as each, string_bytes, true, false};
 ghost use Rattle.std.specs.List.{list_all};
 ghost use Rattle.dip_check_papers.specs.Checks.{IsAnnounced, IsJudgedNext};
-ghost use Rattle.dip_desk_machine.specs.Noting.{public_noted};
+ghost use Rattle.dip_desk_games.specs.Noting.{public_noted};
 ghost use Rattle.dip_desk_state.specs.Bounds.{most_papers};
 ghost use Rattle.dip_desk_state.specs.Rows as rows;
 ghost use Rattle.dip_letters.specs.Letters.{FitsText};

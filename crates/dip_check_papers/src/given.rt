@@ -1,13 +1,13 @@
 //! Whether orders can be given beside one another, and come as papers print them.
 ghost use Rattle.std.specs.Prelude.{◌≡◌, IfOk, true};
 ghost use Rattle.std.specs.List.{list_all};
-ghost use Rattle.dip_desk_machine.specs.Handing.{are_by_place, comes_before};
+ghost use Rattle.dip_desk_games.specs.ByPlace.{are_by_place, comes_before};
 ghost use Rattle.dip_map.specs.Boards.{IsOf};
 ghost use Rattle.dip_orders.specs.Given.{AreGiven, IsEachGiven, orders_of_power};
 ghost use Rattle.dip_orders.specs.Laws.{IsGiven};
 
 use crate::same::is_same;
-use dip_desk_machine::orders_of_power;
+use dip_desk_games::orders_of_power;
 use dip_map::{Board, Map};
 use dip_orders::{PlacedOrder, orders_are_read_again, print_order, read_order};
 use std::alloc::{AllocError, Global};

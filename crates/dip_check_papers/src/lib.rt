@@ -21,8 +21,7 @@ pub use differences::{fault_at, first_difference, other_line};
 pub use drawing::check_draw;
 pub use given::are_given;
 pub use laws::{
-    games_stay_right, movements_are_read_back, other_orders_are_read_back, papers_are_lines,
-    papers_have_one_answer, right_movements_are_decided, what_is_published_is_right,
+    movements_are_read_back, other_orders_are_read_back, papers_are_lines, papers_have_one_answer,
 };
 pub use notices::check_notice;
 pub use openings::check_opening;

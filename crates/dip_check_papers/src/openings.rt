@@ -4,7 +4,7 @@ ghost use Rattle.std.specs.List.{list_all};
 ghost use Rattle.std.specs.Fmt.{decimal};
 ghost use Rattle.dip_check_papers.specs.Checks.{IsJudgedFirst};
 ghost use Rattle.dip_check_papers.specs.Parts.{game_line_in, lines_in, word_after, words_in};
-ghost use Rattle.dip_desk_machine.specs.Machine as machine;
+ghost use Rattle.dip_desk_games.specs.Opening.{opening_public};
 ghost use Rattle.dip_desk_state.specs.Rows as rows;
 ghost use Rattle.dip_letters.specs.Words.{is_digit, is_game, is_lower};
 
@@ -93,7 +93,7 @@ fn opening_public(
     intent: bool,
 ) -> Result<Public, AllocError>
     ensures { IfOk result (λ p. rows.public p
-        ≡ machine.opening_public map.now game.now due period grey intent) }
+        ≡ opening_public map.now game.now due period grey intent) }
 {
     Ok(Public {
         game: String::from_str(alloc, game)?,

@@ -1,4 +1,3 @@
 pub mod OrderingLemmas
 pub mod PressLemmas
 pub mod SeatLemmas
-pub mod TickingLemmas

@@ -4,11 +4,11 @@ use Rattle.sha2.specs.Sha256.{sha256}
 use Rattle.dip_letters.specs.Digests.{seat_text}
 use Rattle.dip_letters.specs.Notes.{NoticeRequest, SeatNote}
 use Rattle.dip_map.specs.Charts.{Chart, power_of}
-use Rattle.dip_map.specs.Boards.{Position, opening}
-use Rattle.dip_desk_commands.specs.Drawing.{drawn_between, public_drawn}
-use Rattle.dip_desk_commands.specs.Noting.{is_announcement, public_noted}
-use Rattle.dip_desk_commands.specs.Ordering.{Ordered, kept_orders, same_standings}
-use Rattle.dip_desk_commands.specs.Ticking.{is_over, orders_of, public_played}
+use Rattle.dip_map.specs.Boards.{Position}
+use Rattle.dip_desk_games.specs.Drawing.{drawn_between, public_drawn}
+use Rattle.dip_desk_games.specs.Noting.{is_announcement, public_noted}
+use Rattle.dip_desk_games.specs.Ordering.{Ordered, kept_orders, same_standings}
+use Rattle.dip_desk_games.specs.Ticking.{is_over, orders_of, public_played}
 use Rattle.dip_desk_state.specs.Bounds.{most_sent}
 use Rattle.dip_desk_state.specs.Fitting.{are_complete}
 use Rattle.dip_desk_state.specs.State.{Game, Effect, Nothing, Pending, Votes, Delivers, Opens, Publishes, Seats, NewSeat}
@@ -16,9 +16,10 @@ use Rattle.dip_turn_papers.specs.Papers.{paper_text}
 use Rattle.dip_turn.specs.Reports.{IsPlayed}
 use Rattle.dip_turn.specs.declared.report.Report.{Report}
 use Rattle.dip_reports.specs.Texts.{draw_paper, notice_paper, opening_paper, paper_line, press_line, refusal_line, replaced_line, vote_line}
-use Rattle.dip_desk_state.specs.Records.{Public, Own, Item, Standing, Running, Vote, Whole}
+use Rattle.dip_desk_state.specs.Records.{Public, Own, Item, Standing, Vote, Whole}
 use Rattle.dip_reports.specs.declared.refusals.Refusal.{Refusal}
 use Rattle.dip_reports.specs.declared.refusals.Refusal.TheVariants.{Malformed, QuotaUsed, NoGrey, GameOver, NotDue, NameTaken}
+pub use Rattle.dip_desk_games.specs.Opening.{opening_public}
 
 -- the digest of a secret
 unfoldable pub digest : List ℕ → List ℕ → List ℕ → List ℕ
@@ -78,18 +79,6 @@ with_more None more = None
 abbrev pub new_seats : Chart → List ℕ → List SeatNote → Option (List NewSeat)
 new_seats m game [] = Some []
 new_seats m game (s ∷ ss) = with_more (new_seat m game s) (new_seats m game ss)
-
--- the public part of a new game
-abbrev pub opening_public : Chart → List ℕ → ℕ → ℕ → (grey intent : Bool) → Public
-opening_public m game due period grey intent = record {
-  game = game;
-  board = record (opening m) { intent = intent };
-  status = Running;
-  due = due;
-  period = period;
-  grey = grey;
-  papers = 1;
-}
 
 -- a new game, where its name is free
 abbrev pub open_game : Chart → Public → List NewSeat → Option Game → Verdict

@@ -1,6 +1,6 @@
 -- What the code's record of ORDERS says.
 use Rattle.std.specs.Prelude.{string_bytes}
-use Rattle.dip_desk_commands.specs.Ordering as o
+use Rattle.dip_desk_games.specs.Ordering as o
 use Rattle.dip_desk_commands.specs.declared.ordering.Ordered.{Ordered}
 
 abbrev pub so_far : Ordered → o.Ordered

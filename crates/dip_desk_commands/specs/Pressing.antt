@@ -3,6 +3,7 @@ use Rattle.std.specs.Prelude.{ℕ, Bool, true, false, ◌==◌, ◌&&◌, not, L
 use Rattle.std.specs.List.{list_any}
 use Rattle.dip_map.specs.Charts.{Chart, power_of, powers, realm}
 use Rattle.dip_desk_state.specs.Records.{Item, White, Grey}
+pub use Rattle.dip_desk_games.specs.Among.{is_among}
 
 -- a name that stands for all other powers
 abbrev pub names_all : List ℕ → Bool
@@ -27,9 +28,6 @@ with_power None more = None
 abbrev pub named_powers : Chart → List (List ℕ) → Option (List ℕ)
 named_powers m [] = Some []
 named_powers m (name ∷ names) = with_power (power_of m name) (named_powers m names)
-
-abbrev pub is_among : ℕ → List ℕ → Bool
-is_among power ps = list_any (λ p. p == power) ps
 
 -- none stands twice
 abbrev pub are_distinct : List ℕ → Bool

@@ -1,16 +1,15 @@
 //! What a notice of the master comes to: a paper, and what it changes of the game.
-ghost use Rattle.std.specs.Prelude.{◌≡◌, ◌<◌, IfOk, IsErrOf};
+ghost use Rattle.std.specs.Prelude.{◌≡◌, IfOk, IsErrOf};
 ghost use Rattle.dip_letters.specs.Views.{notice_request};
-ghost use Rattle.dip_desk_state.specs.Bounds.{most_papers};
 ghost use Rattle.dip_desk_state.specs.Faults.{faults_after};
 ghost use Rattle.dip_desk_commands.specs.Commands as c;
-ghost use Rattle.dip_desk_commands.specs.Noting as n;
+ghost use Rattle.dip_desk_games.specs.Noting as n;
 ghost use Rattle.dip_desk_commands.specs.Verdicts.{verdict};
 ghost use Rattle.dip_desk_state.specs.Rows as rows;
 
-use crate::ticking::is_over;
 use crate::verdicts::{Verdict, refusal_verdict};
-use dip_desk_state::{Effect, KeepFault, MOST_PAPERS, Public, Status};
+use dip_desk_games::{is_over, public_noted};
+use dip_desk_state::{Effect, KeepFault, MOST_PAPERS, Public};
 use dip_letters::Notice;
 use dip_map::Map;
 use dip_reports::{Refusal, notice_paper_text, paper_line};
@@ -24,52 +23,6 @@ fn is_announcement(notice: &Notice<'_>) -> bool
         Notice::Announce(_) => true,
         Notice::Pause | Notice::Resume | Notice::Period(_) | Notice::Close => false,
     }
-}
-
-/// How a game stands after the notice.
-fn status_noted(alloc: Global, notice: &Notice<'_>, status: &Status) -> Result<Status, AllocError>
-    ensures { IfOk result
-        (λ s. rows.status s
-        ≡ n.status_noted (notice_request notice.now) (rows.status status.now)) }
-{
-    match notice {
-        Notice::Pause => Ok(Status::Paused),
-        Notice::Resume => Ok(Status::Running),
-        Notice::Close => Ok(Status::Closed),
-        Notice::Period(_) | Notice::Announce(_) => status.copy(alloc),
-    }
-}
-
-/// The ticks from one due tick to the next after the notice.
-fn period_noted(notice: &Notice<'_>, period: u32) -> u32
-    ensures { result ≡ n.period_noted (notice_request notice.now) period }
-{
-    match notice {
-        Notice::Period(period) => *period,
-        Notice::Pause | Notice::Resume | Notice::Announce(_) | Notice::Close => period,
-    }
-}
-
-/// The public part after the notice.
-pub fn public_noted(
-    alloc: Global,
-    notice: &Notice<'_>,
-    public: &Public,
-) -> Result<Public, AllocError>
-    requires { public.now.papers < most_papers }
-    ensures { IfOk result
-        (λ p. rows.public p
-        ≡ n.public_noted (notice_request notice.now) (rows.public public.now)) }
-{
-    Ok(Public {
-        game: public.game.clone()?,
-        board: public.board.clone()?,
-        status: status_noted(alloc, notice, &public.status)?,
-        due: public.due,
-        period: period_noted(notice, public.period),
-        grey: public.grey,
-        papers: public.papers + 1,
-    })
 }
 
 /// The verdict that publishes the notice as the game's next paper. No phase is played, so that

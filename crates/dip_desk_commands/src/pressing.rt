@@ -5,12 +5,11 @@ ghost use Rattle.dip_map.specs.Charts.{powers};
 ghost use Rattle.dip_letters.specs.Views.{names_in, texts_in};
 ghost use Rattle.dip_desk_commands.specs.Commands as c;
 ghost use Rattle.dip_desk_commands.specs.Pressing as p;
-ghost use Rattle.dip_desk_commands.specs.Ticking as t;
 ghost use Rattle.dip_desk_commands.specs.Verdicts.{verdict};
 ghost use Rattle.dip_desk_state.specs.Rows as rows;
 
-use crate::ticking::is_over;
 use crate::verdicts::{Verdict, refusal_verdict};
+use dip_desk_games::{is_among, is_over};
 use dip_desk_state::{Effect, Item, MOST_SENT, Own, Public};
 use dip_letters::{Names, Press, Texts};
 use dip_map::Map;
@@ -97,13 +96,6 @@ pub fn named_powers(
         }
     }
     Ok(Some(found))
-}
-
-/// Whether the power is one of these.
-pub fn is_among(power: Power, powers: &[Power]) -> bool
-    ensures { result ≡ p.is_among power powers.now }
-{
-    powers.iter().any(|other| *other == power)
 }
 
 /// Whether no power stands twice.

@@ -4,16 +4,16 @@ use Rattle.std.specs.Prelude.{◌&&◌, ◌↔◌, filter}
 use Rattle.std.specs.List.{AllByRecursion, list_all}
 use Rattle.std.proofs.lemmas.Bool.{and_parts, false≢true}
 use Rattle.dip_map.specs.Charts.{Chart, powers}
-use Rattle.dip_desk_commands.specs.Drawing.{agreed, asked, drawn_between, first_asked, is_set, survives, survivors, vote_of, where_agreed}
+use Rattle.dip_desk_games.specs.Drawing.{agreed, asked, drawn_between, first_asked, is_set, survives, survivors, vote_of, where_agreed}
 use Rattle.dip_desk_machine.specs.Draws.{AsksFor, Draws, DrawsAreAgreed, IsAgreedOn, IsSurvivor}
 use Rattle.dip_desk_machine.specs.Machine.{OnTime}
 use Rattle.dip_desk_commands.specs.Pressing.{is_among}
-use Rattle.dip_desk_commands.specs.Ticking.{status_after}
+use Rattle.dip_desk_games.specs.Ticking.{status_after}
 use Rattle.dip_turn.specs.declared.report.Course.{Course}
 use Rattle.dip_turn.specs.declared.report.Course.TheVariants.{GoesOn, Won as WonBy, Ended as AtAnEnd}
 use Rattle.dip_desk_state.proofs.KeyedLemmas.{names_tell}
 use Rattle.dip_desk_state.specs.Records.{Drawn, Vote, No, Yes, For, Whole}
-use Rattle.dip_desk_machine.proofs.Counting.{all_weaker}
+use Rattle.dip_desk_games.proofs.ListLemmas.{all_weaker}
 use Rattle.dip_desk_machine.proofs.VotingLemmas.{agreed_is, all_among, among_all, among_kept}
 use Rattle.dip_desk_machine.proofs.WritableLemmas.{powers_low}
 

@@ -17,14 +17,15 @@ use Rattle.dip_orders.specs.Texts.{order_text}
 use Rattle.dip_orders.specs.declared.placed.Order.{Order}
 use Rattle.dip_orders.specs.declared.placed.Order.TheVariants.{Hold, Move, SupportHold, SupportMove, Convoy, Retreat, Disband, Build, Remove}
 use Rattle.dip_orders.specs.declared.placed.PlacedOrder.{PlacedOrder}
-use Rattle.dip_desk_machine.proofs.Counting.{all_weaker}
+use Rattle.dip_desk_games.proofs.ListLemmas.{all_weaker}
 use Rattle.dip_desk_machine.proofs.LawfulOrders.{AreRead, standing_is}
-use Rattle.dip_desk_machine.specs.Handing.{StandingOrdersAreGiven, StandingOrdersComeByPlace, are_by_place, comes_before}
+use Rattle.dip_desk_machine.specs.Handing.{StandingOrdersAreGiven, StandingOrdersComeByPlace}
+use Rattle.dip_desk_games.specs.ByPlace.{are_by_place, comes_before}
 use Rattle.dip_desk_machine.specs.Lawful.{IsLawfulGame, IsLawfulSeat}
 use Rattle.dip_desk_state.specs.Fitting.{AreAscending}
-use Rattle.dip_desk_commands.specs.Ordering.{prov_of, orders_that_stand}
+use Rattle.dip_desk_games.specs.Ordering.{prov_of, orders_that_stand}
 use Rattle.dip_desk_state.specs.State.{Game, Part, power_in, whole_of}
-use Rattle.dip_desk_commands.specs.Ticking.{by_power, orders_of, orders_of_seats}
+use Rattle.dip_desk_games.specs.Ticking.{by_power, orders_of, orders_of_seats}
 use Rattle.dip_desk_machine.proofs.Seeing.{both}
 
 -- what is found passes

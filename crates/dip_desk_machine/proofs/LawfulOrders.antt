@@ -19,8 +19,9 @@ use Rattle.dip_orders.specs.declared.placed.PlacedOrder.{PlacedOrder}
 use Rattle.dip_desk_state.specs.Records.{Standing}
 use Rattle.dip_desk_machine.specs.Lawful.{AreStanding}
 use Rattle.dip_desk_state.specs.Fitting.{AreAscending}
-use Rattle.dip_desk_commands.specs.Ordering.{Ordered, after_line, after_lines, has_foreign, kept_orders, outcome_of_lines, orders_after, prov_of, orders_that_stand, standing_with, with_order}
-use Rattle.dip_desk_machine.proofs.Counting.{all_both, all_weaker, each_but_itself, elsewhere, elsewhere_all, elsewhere_but_one, elsewhere_few, kind_apart, one, unlike}
+use Rattle.dip_desk_games.specs.Ordering.{Ordered, after_line, after_lines, has_foreign, kept_orders, outcome_of_lines, orders_after, prov_of, orders_that_stand, standing_with, with_order}
+use Rattle.dip_desk_games.proofs.ListLemmas.{all_weaker}
+use Rattle.dip_desk_machine.proofs.Counting.{all_both, each_but_itself, elsewhere, elsewhere_all, elsewhere_but_one, elsewhere_few, kind_apart, one, unlike}
 
 -- how orders on a board are read: what is read is lawful, what is lawful is read from its text, and what is read beside others is
 -- read alone

@@ -25,7 +25,7 @@ use Rattle.dip_desk_machine.specs.Mail.{IsMail, Mail}
 use Rattle.dip_desk_commands.specs.Pressing.{is_among}
 use Rattle.dip_desk_state.specs.State.{State, Game, Part, Author, Nobody, TheMaster, Seat, Change, Effect, Nothing, Pending, Votes, Delivers, Opens, Publishes, Seats, NewSeat, after_paper, desk_after, fresh, game_after, game_at, name_of, new_games, opening_game, papers_after, power_in, public_after, seat_at, whole_of, with_author, with_digest, with_effect, with_item, with_letter}
 use Rattle.dip_desk_state.specs.Writable.{IsPublicOf, IsStatusOf, IsVoteOf}
-use Rattle.dip_desk_commands.specs.Ticking.{orders_of, public_played, status_after}
+use Rattle.dip_desk_games.specs.Ticking.{orders_of, public_played, status_after}
 use Rattle.dip_orders.proofs.KeptLaws.{count_cons}
 use Rattle.dip_orders.specs.Given.{AreGiven}
 use Rattle.dip_orders.specs.declared.placed.PlacedOrder.{PlacedOrder}
@@ -34,7 +34,8 @@ use Rattle.dip_turn.specs.Reports.{IsPlayed}
 use Rattle.dip_turn.specs.declared.report.Report.{Report}
 use Rattle.dip_desk_state.proofs.KeyedLemmas.{at-append, names_tell, powers_tell}
 use Rattle.dip_desk_machine.proofs.LawfulOrders.{AreRead, ordered_standing}
-use Rattle.dip_desk_machine.proofs.Counting.{all_both, all_weaker}
+use Rattle.dip_desk_games.proofs.ListLemmas.{all_weaker}
+use Rattle.dip_desk_machine.proofs.Counting.{all_both}
 use Rattle.dip_desk_machine.proofs.ListLemmas.{all_at, all_change, all_last, all_map, all_same, count_change, count_map}
 use Rattle.dip_desk_state.proofs.KeptKeys.{effect_power, letter_power, name_kept}
 use Rattle.dip_desk_machine.proofs.Suiting.{Comes, IsFitting, IsPosted, command_holds, decides_suits, master_holds, master_posted, master_where, seat_holds}

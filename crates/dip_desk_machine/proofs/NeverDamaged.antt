@@ -17,12 +17,13 @@ use Rattle.dip_desk_machine.specs.Mail.{IsMail, Mail}
 use Rattle.dip_desk_commands.specs.Pressing.{is_among}
 use Rattle.dip_desk_state.specs.State.{State, Game, Part, Nobody, TheMaster, Seat, Nothing, Delivers, game_at, has_room, have_room, may_get, may_send, name_of, own_of, power_in, seat_at, whole_of}
 use Rattle.dip_desk_state.specs.Writable.{IsPublicOf}
-use Rattle.dip_desk_commands.specs.Ordering.{has_foreign}
-use Rattle.dip_desk_commands.specs.Ticking.{IsPlayable}
+use Rattle.dip_desk_games.specs.Ordering.{has_foreign}
+use Rattle.dip_desk_games.specs.Ticking.{IsPlayable}
 use Rattle.dip_orders.proofs.KeptLaws.{count_cons}
 use Rattle.dip_desk_state.proofs.KeyedLemmas.{at_key, powers_tell}
 use Rattle.dip_desk_machine.proofs.LawfulOrders.{AreRead, standing_own}
-use Rattle.dip_desk_machine.proofs.Counting.{all_both, all_weaker}
+use Rattle.dip_desk_games.proofs.ListLemmas.{all_weaker}
+use Rattle.dip_desk_machine.proofs.Counting.{all_both}
 use Rattle.dip_desk_machine.proofs.ListLemmas.{all_at}
 use Rattle.dip_desk_machine.proofs.Suiting.{Comes, decides_suits}
 use Rattle.dip_desk_machine.proofs.Handing.{each_counted, whole_given}

@@ -21,11 +21,11 @@ use Rattle.dip_turn.specs.declared.report.Course.{Course}
 use Rattle.dip_turn.specs.declared.report.Report.{Report}
 use Rattle.dip_turn.specs.declared.report.RetreatLine.{RetreatLine}
 use Rattle.dip_turn.specs.declared.report.Waiver.{Waiver}
-use Rattle.dip_desk_commands.specs.Drawing.{drawn_between}
+use Rattle.dip_desk_games.specs.Drawing.{drawn_between}
 use Rattle.dip_desk_machine.specs.Machine.{Decides, DecidesIn, DecidesNew, IsPublished, MasterDecides, NumberedBy, OnTime, Taken, Ticks, Verdict, author, old_number, paper_verdict}
 use Rattle.dip_desk_machine.specs.Mail.{Mail}
 use Rattle.dip_desk_state.specs.State.{Game, Nobody, Publishes, Seat, State, TheMaster, game_at, whole_of}
-use Rattle.dip_desk_commands.specs.Ticking.{is_due, is_over, orders_of, public_played}
+use Rattle.dip_desk_games.specs.Ticking.{is_due, is_over, orders_of, public_played}
 use Rattle.dip_desk_machine.specs.View.{HistoriesAreOne, IsDecidedOnce, IsRun, Turn, left_by}
 
 -- what is told alike has one text

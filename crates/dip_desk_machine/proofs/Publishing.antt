@@ -30,7 +30,7 @@ use Rattle.dip_desk_machine.specs.Machine.{Decides, IsPublished, NotKnown, Taken
 use Rattle.dip_orders.specs.Conditions.{is_movement}
 use Rattle.dip_desk_machine.specs.Published.{AreDecided, IsFair, MovementsAreDecided, TellsMovement, movement_paper, orders_stood}
 use Rattle.dip_desk_state.specs.State.{Author, Game, Nobody, Publishes, Seat, State, TheMaster, game_at, whole_of}
-use Rattle.dip_desk_commands.specs.Ticking.{orders_of, public_played}
+use Rattle.dip_desk_games.specs.Ticking.{orders_of, public_played}
 use Rattle.dip_desk_machine.specs.View.{IsRun, Turn, author_in, left_by}
 use Rattle.dip_desk_machine.proofs.Histories.{settled}
 use Rattle.dip_desk_machine.proofs.Suiting.{Comes, decides_suits, master_posted}

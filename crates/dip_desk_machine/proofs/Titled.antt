@@ -3,7 +3,7 @@ use Rattle.std.proofs.Common.{◌≡◌, Option, Some, None, sym, subst}
 use Rattle.dip_map.specs.Charts.{Chart}
 use Rattle.dip_desk_state.specs.State.{Effect, Game, Nobody, Nothing, Pending, Votes, Delivers, Opens, Publishes, Seats, Seat, TheMaster, game_at}
 use Rattle.dip_desk_machine.specs.Machine.{Verdict, NotKnown, Again, OutOfTurn, Taken}
-use Rattle.dip_desk_commands.specs.Ticking.{public_played}
+use Rattle.dip_desk_games.specs.Ticking.{public_played}
 use Rattle.dip_desk_machine.specs.Titles.{TitlesTell, names_phase}
 use Rattle.dip_desk_machine.proofs.Suiting.{Comes, decides_suits, master_holds}
 use Rattle.dip_desk_machine.proofs.Titles.{phase_told}

@@ -2,7 +2,7 @@
 use Rattle.std.specs.Prelude.{◌≡◌, ◌<◌, ◌↔◌, ℕ, Bool, true, false, List, length}
 use Rattle.std.specs.List.{AllByRecursion}
 use Rattle.dip_map.specs.Charts.{Chart}
-use Rattle.dip_desk_commands.specs.Drawing.{survives, survivors, vote_of}
+use Rattle.dip_desk_games.specs.Drawing.{survives, survivors, vote_of}
 use Rattle.dip_desk_machine.specs.Machine.{Ticks, Verdict, NotKnown, Again, OutOfTurn, Taken}
 use Rattle.dip_desk_state.specs.Records.{Drawn, Vote, No, Yes, For, Whole}
 use Rattle.dip_desk_state.specs.State.{Nothing, Pending, Votes, Delivers, Opens, Publishes, Seats}

@@ -11,7 +11,7 @@ use Rattle.dip_desk_state.specs.Records.{Kept, Standing, Reply}
 use Rattle.dip_desk_state.specs.Fitting.{AreAscending}
 use Rattle.dip_desk_state.specs.Keyed.{at}
 use Rattle.dip_desk_machine.specs.Mail.{IsMail, Mail}
-use Rattle.dip_desk_commands.specs.Ordering.{kept_orders, prov_of}
+use Rattle.dip_desk_games.specs.Ordering.{kept_orders, prov_of}
 use Rattle.dip_desk_machine.specs.Machine.{MayBeDamaged, Step}
 use Rattle.dip_desk_state.specs.State.{Author, Game, Part, State, name_of, power_in}
 use Rattle.dip_desk_state.specs.Writable.{IsPublicOf, IsVoteOf}

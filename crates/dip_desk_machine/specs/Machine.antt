@@ -10,10 +10,10 @@ use Rattle.dip_letters.specs.declared.letters.LetterFault.TheVariants.{Malformed
 use Rattle.dip_map.specs.Charts.{Chart, power_of}
 use Rattle.dip_map.specs.Boards.{IsOf}
 use Rattle.dip_desk_machine.specs.Mail.{Mail}
-use Rattle.dip_desk_commands.specs.Noting.{CanPublish}
-use Rattle.dip_desk_commands.specs.Ordering.{has_foreign, outcome_of_lines}
+use Rattle.dip_desk_games.specs.Noting.{CanPublish}
+use Rattle.dip_desk_games.specs.Ordering.{has_foreign, outcome_of_lines}
 use Rattle.dip_desk_commands.specs.Pressing.{item_of, readers_of}
-use Rattle.dip_desk_commands.specs.Ticking.{IsPlayable, is_due, is_over}
+use Rattle.dip_desk_games.specs.Ticking.{IsPlayable, is_due, is_over}
 use Rattle.dip_desk_commands.specs.Voting.{plain_vote, set_of}
 use Rattle.dip_desk_state.specs.State.{State, Game, Author, Nobody, TheMaster, Seat, Change, Effect, Nothing, Delivers, Part, game_at, have_room, own_at, own_of, page_of, part_at, public_at, seat_at, state_after, whole_of}
 use Rattle.dip_desk_state.specs.Writable.{IsPublicOf}

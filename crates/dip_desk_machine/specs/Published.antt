@@ -22,7 +22,7 @@ use Rattle.dip_turn.specs.Phases.{follow}
 use Rattle.dip_turn.specs.declared.report.CentreLine.{CentreLine}
 use Rattle.dip_desk_machine.specs.Machine.{Taken}
 use Rattle.dip_desk_state.specs.State.{Game, Publishes, State, game_at, whole_of}
-use Rattle.dip_desk_commands.specs.Ticking.{orders_of}
+use Rattle.dip_desk_games.specs.Ticking.{orders_of}
 use Rattle.dip_desk_machine.specs.View.{IsRun, IsSettledByView, Turn}
 use Rattle.dip_orders.specs.Conditions.{is_movement}
 

@@ -1,7 +1,7 @@
 //! What is decided of a letter of a seat, by what the seat sees alone.
 ghost use Rattle.std.specs.Prelude.{◌≡◌, Some, IfOk, IsErrOf, true};
 ghost use Rattle.dip_letters.specs.Views.{player_request};
-ghost use Rattle.dip_desk_commands.specs.Ordering.{has_foreign};
+ghost use Rattle.dip_desk_games.specs.Ordering.{has_foreign};
 ghost use Rattle.dip_desk_commands.specs.Verdicts.{verdict};
 ghost use Rattle.dip_desk_machine.specs.Mail.{mail};
 ghost use Rattle.dip_desk_machine.specs.Machine as m;

@@ -7,9 +7,7 @@ mod mastering;
 mod numbers;
 
 pub use deciding::seat_verdict;
-pub use dip_desk_commands::{
-    Verdict, digest_of, is_due, is_over, orders_of_power, public_noted, public_played, survives,
-};
+pub use dip_desk_commands::{Verdict, digest_of};
 pub use laws::{
     answered_from_what_is_seen, draws_are_agreed, effects_are_shown, effects_fit,
     histories_are_one, lawful_states_stay_lawful, new_desks_are_lawful,

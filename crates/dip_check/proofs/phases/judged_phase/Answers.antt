@@ -3,7 +3,7 @@ use Rattle.dip_map.specs.Boards.{Position}
 use Rattle.dip_map.specs.Charts.{Chart}
 use Rattle.dip_desk_state.specs.Records.{Public}
 use Rattle.dip_desk_state.specs.Rows as rows
-use Rattle.dip_desk_machine.specs.Handing.{are_by_place}
+use Rattle.dip_desk_games.specs.ByPlace.{are_by_place}
 use Rattle.dip_orders.specs.Given.{AreGiven}
 use Rattle.dip_orders.specs.Laws.{LawfulOrdersAreRead, OrdersAreLawful, OrdersStandAlone, TextsAreReadAgain}
 use Rattle.dip_orders.specs.declared.placed.PlacedOrder.{PlacedOrder}

@@ -1,7 +1,7 @@
 use Rattle.std.proofs.Common.{◌≡◌, ◌++◌, ◌∷◌, codes, ℕ, List, ap, rules, subst, sym, ◌∙◌}
 use Rattle.std.specs.Fmt.{decimal}
 use Rattle.dip_map.specs.Boards.{IsOf, Position}
-use Rattle.dip_desk_machine.specs.Ticking.{public_played}
+use Rattle.dip_desk_games.specs.Ticking.{public_played}
 use Rattle.dip_desk_state.specs.Records.{Public}
 use Rattle.dip_desk_state.specs.Rows as rows
 use Rattle.dip_turn.specs.Reports.{IsPlayed}

@@ -2,8 +2,8 @@ use Rattle.std.proofs.Common.{◌≡◌, ℕ, List, Bor, map, inl, inr, refl, su
 use Rattle.dip_map.specs.Boards.{IsOf}
 use Rattle.dip_letters.specs.Letters.{FitsText}
 use Rattle.dip_letters.specs.Notes.NoticeRequest.{Announce}
-use Rattle.dip_desk_machine.specs.Noting.{public_noted}
-use Rattle.dip_desk_machine.specs.Ticking.{is_over}
+use Rattle.dip_desk_games.specs.Noting.{public_noted}
+use Rattle.dip_desk_games.specs.Ticking.{is_over}
 use Rattle.dip_desk_state.specs.Records.{Public}
 use Rattle.dip_desk_state.specs.Rows as rows
 use Rattle.dip_reports.specs.Texts.{notice_paper}

@@ -1,6 +1,6 @@
 use Rattle.std.proofs.Common.{◌≡◌, ◌++◌, ℕ, List, Bor, map, inr, refl, subst, sym, ap, ◌∙◌}
 use Rattle.dip_map.specs.Boards.{IsOf, Position}
-use Rattle.dip_desk_machine.specs.Drawing.{public_drawn}
+use Rattle.dip_desk_games.specs.Drawing.{public_drawn}
 use Rattle.dip_desk_state.specs.Records.{Public}
 use Rattle.dip_desk_state.specs.Rows as rows
 use Rattle.dip_reports.specs.Texts.{draw_paper}

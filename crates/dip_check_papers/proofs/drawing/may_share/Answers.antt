@@ -1,8 +1,8 @@
 use Rattle.std.proofs.Common.{◌≡◌, ◌<◌, ◌==◌, length, nat_lt, true, false, sym, ◌∙◌, arith, rules}
 use Rattle.std.specs.List.{AllByRecursion, list_all}
 use Rattle.std.proofs.lemmas.Bool.{eqb-false, false≢true, lt-ltb, ltb-true}
-use Rattle.dip_desk_machine.specs.Drawing.{survives}
-use Rattle.dip_desk_machine.proofs.Counting.{all_weaker}
+use Rattle.dip_desk_games.specs.Drawing.{survives}
+use Rattle.dip_desk_games.proofs.ListLemmas.{all_weaker}
 use Rattle.dip_check_papers.proofs.Listed.{all_tested, tested_all}
 use Rattle.dip_check_papers.proofs.drawing.may_share.Goals as goal
 

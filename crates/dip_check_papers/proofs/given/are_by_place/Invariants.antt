@@ -1,5 +1,5 @@
 use Rattle.std.proofs.Common.{◌≡◌, drop}
-use Rattle.dip_desk_machine.specs.Handing.{are_by_place}
+use Rattle.dip_desk_games.specs.ByPlace.{are_by_place}
 use Rattle.dip_check_papers.proofs.given.are_by_place.Given as goal
 
 abbrev pub invariant-loop-number : goal.invariant-loop-number

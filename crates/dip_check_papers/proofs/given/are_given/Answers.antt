@@ -1,6 +1,6 @@
 use Rattle.std.proofs.Common.{◌≡◌, true, Bool, rules}
 use Rattle.dip_orders.specs.Given.{AreGiven, IsEachGiven}
-use Rattle.dip_desk_machine.specs.Handing.{are_by_place}
+use Rattle.dip_desk_games.specs.ByPlace.{are_by_place}
 use Rattle.dip_check_papers.proofs.Coming.{ok_weaker}
 use Rattle.dip_check_papers.proofs.Listed.{apart}
 use Rattle.dip_check_papers.proofs.given.are_given.Goals as goal

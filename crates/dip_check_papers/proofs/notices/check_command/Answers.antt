@@ -2,7 +2,7 @@ use Rattle.std.proofs.Common.{◌≡◌, ℕ, List, inl, inr, refl, subst, sym, 
 use Rattle.dip_map.specs.Boards.{IsOf}
 use Rattle.dip_letters.specs.Notes.{NoticeRequest}
 use Rattle.dip_letters.specs.Views.{notice_request}
-use Rattle.dip_desk_machine.specs.Noting.{public_noted}
+use Rattle.dip_desk_games.specs.Noting.{public_noted}
 use Rattle.dip_desk_state.specs.Records.{Public}
 use Rattle.dip_desk_state.specs.Rows as rows
 use Rattle.dip_reports.specs.Texts.{notice_paper}

@@ -1,6 +1,6 @@
 use Rattle.std.proofs.Common.{◌≡◌, ◌≤◌, ℕ, List, Bor, map, subst, sym, ap, ◌∙◌}
 use Rattle.dip_map.specs.Boards.{IsOf}
-use Rattle.dip_desk_machine.specs.Machine.{opening_public}
+use Rattle.dip_desk_games.specs.Opening.{opening_public}
 use Rattle.dip_desk_state.specs.Records.{Public}
 use Rattle.dip_desk_state.specs.Rows as rows
 use Rattle.dip_reports.specs.Texts.{opening_paper}

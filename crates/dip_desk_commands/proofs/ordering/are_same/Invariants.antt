@@ -1,5 +1,5 @@
 use Rattle.std.proofs.Common.{◌≡◌, length}
-use Rattle.dip_desk_commands.specs.Ordering.{same_standings}
+use Rattle.dip_desk_games.specs.Ordering.{same_standings}
 use Rattle.dip_desk_state.specs.Rows as rows
 use Rattle.dip_desk_commands.proofs.ordering.are_same.Given as goal
 

@@ -1,5 +1,5 @@
 use Rattle.std.proofs.Common.{◌≡◌, take}
-use Rattle.dip_desk_commands.specs.Ordering as ordering
+use Rattle.dip_desk_games.specs.Ordering as ordering
 use Rattle.dip_desk_state.specs.Rows as rows
 use Rattle.dip_desk_commands.proofs.ordering.kept_orders.Given as goal
 

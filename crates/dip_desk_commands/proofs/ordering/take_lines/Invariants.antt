@@ -1,6 +1,6 @@
 use Rattle.std.proofs.Common.{◌≡◌, ◌+◌, length}
 use Rattle.dip_letters.specs.Views.{lines_in}
-use Rattle.dip_desk_commands.specs.Ordering.{after_lines}
+use Rattle.dip_desk_games.specs.Ordering.{after_lines}
 use Rattle.dip_desk_commands.specs.OrderingRows.{so_far}
 use Rattle.dip_desk_commands.proofs.ordering.take_lines.Given as goal
 

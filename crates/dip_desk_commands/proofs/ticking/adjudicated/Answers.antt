@@ -3,7 +3,7 @@ use Rattle.dip_map.specs.Boards.{Position}
 use Rattle.dip_orders.specs.declared.placed.PlacedOrder.{PlacedOrder}
 use Rattle.dip_desk_state.specs.Records.{Public}
 use Rattle.dip_desk_commands.specs.Commands.{paper_verdict}
-use Rattle.dip_desk_commands.specs.Ticking.{by_power, orders_of, orders_of_seats}
+use Rattle.dip_desk_games.specs.Ticking.{by_power, orders_of, orders_of_seats}
 use Rattle.dip_desk_state.specs.Rows as rows
 use Rattle.dip_desk_state.specs.declared.records.Own.{Own}
 use Rattle.dip_turn.specs.Reports.{IsPlayed}

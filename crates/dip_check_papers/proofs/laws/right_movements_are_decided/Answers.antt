@@ -1,5 +1,0 @@
-use Rattle.dip_check_papers.proofs.Decided.{movements_are_decided}
-use Rattle.dip_check_papers.proofs.laws.right_movements_are_decided.Goals as goal
-
-pub returns : goal.returns
-returns c m = movements_are_decided m c.explained_is_lawful.ensures.equations

@@ -15,7 +15,7 @@ use Rattle.dip_check_papers.specs.Laws.{OpeningsHaveOneAnswer, PapersHaveOneAnsw
 use Rattle.dip_check_papers.specs.PaperTexts.{HasNoEnd, IsPaperText, PapersAreLines, end_line, text_of}
 use Rattle.dip_check_papers.proofs.EndLemmas.{ArePrintable, cut_unique, text_ascii}
 use Rattle.dip_check_papers.proofs.OneAnswer.{next_period}
-use Rattle.dip_judge_runs.specs.declared.run.RunFault.{RunFault}
+use Rattle.dip_check_runs.specs.declared.faults.CheckFault.{CheckFault}
 use Rattle.dip_check_runs.specs.Input.{AreEmptyLines, EndsOnce, IsAfterLines, IsRead, IsTakenFront, closing}
 use Rattle.dip_check_runs.specs.Runs.{AreFronts, ArePlayed, HasBoard, TellsIfGame, IsSaid, is_right}
 use Rattle.dip_check_runs.specs.declared.input.Ahead.{Ahead}
@@ -301,7 +301,7 @@ told_end : (m : Chart) → PapersAreLines m → (known left : Option (List ℕ))
 told_end m texts known left used front papers None ahead played fronts empty read taken = empty_is_none m texts known left used front papers ahead played fronts empty read taken
 told_end m texts known left used front papers (Some p) ahead played fronts empty read taken = all_is_game m known left used front papers p ahead played.0 fronts empty read taken
 
-pub end_is_exact : (m : Chart) → PapersAreLines m → (known left : Option (List ℕ)) (used front : List ℕ) (papers : List (List ℕ)) (game : Option Row) (ahead : Ahead) (r : Result Bool RunFault)
+pub end_is_exact : (m : Chart) → PapersAreLines m → (known left : Option (List ℕ)) (used front : List ℕ) (papers : List (List ℕ)) (game : Option Row) (ahead : Ahead) (r : Result Bool CheckFault)
     → ArePlayed m papers game → AreFronts used papers → AreEmptyLines front → IsRead known left (used ++ front) ahead → IsTakenFront front ahead
     → IfOk r (λ right. right ≡ is_some game) → IfOk r (TellsIfGame m known)
 end_is_exact m texts known left used front papers game ahead r played fronts empty read taken is =

@@ -25,8 +25,8 @@ use Rattle.dip_turn.specs.Reports.{Leaves, LeavesMoved}
 use Rattle.dip_turn.specs.declared.report.Account.{Account}
 use Rattle.dip_turn.specs.declared.report.Account.TheVariants.{Movement as OfMovement, Retreats as OfRetreats, Adjustment as OfAdjustment}
 use Rattle.dip_turn.specs.declared.report.Report.{Report}
-use Rattle.dip_judge_runs.specs.declared.run.RunFault.{RunFault}
-use Rattle.dip_judge_runs.specs.declared.run.RunFault.TheVariants.{Keep, Memory, Read, TooLong, Write}
+use Rattle.dip_check_runs.specs.declared.faults.CheckFault.{CheckFault}
+use Rattle.dip_check_runs.specs.declared.faults.CheckFault.TheVariants.{Memory, Read, TooLong, Write}
 use Rattle.dip_check_papers.specs.PaperTexts.{HasNoEnd}
 use Rattle.dip_check_runs.specs.Input.{AreEmptyLines, HasUsed, IsAfterLines, IsRead, IsTakenFront, IsTooMuch, closing}
 use Rattle.dip_check_runs.specs.Texts.{missing_text, no_phase_text, right_text, said_text}
@@ -234,44 +234,34 @@ begins_as : (P Q : List ℕ → Type 0) (a b : Option (List ℕ)) → ((t : List
 begins_as P Q a b weaker begun = (begun.0, weaker begun.0 begun.1, begun.2)
 
 -- a fault ended the telling of what was to be told
-pub stops_telling : (m : Chart) (known : Option (List ℕ)) (papers : List (List ℕ)) (game : Option Row) (P : List ℕ → Type 0) (a b : Option (List ℕ)) (f : RunFault)
+pub stops_telling : (m : Chart) (known : Option (List ℕ)) (papers : List (List ℕ)) (game : Option Row) (P : List ℕ → Type 0) (a b : Option (List ℕ)) (f : CheckFault)
     → ((t : List ℕ) → P t → IsToTell m known papers game t) → StopsTelling P a b f → StopsAfter m known papers game a b f
 stops_telling m known papers game P a b Memory weaker h = h
 stops_telling m known papers game P a b Write weaker h = begins_as P (IsToTell m known papers game) a b weaker h
 stops_telling m known papers game P a b Read weaker h = absurd h
 stops_telling m known papers game P a b TooLong weaker h = absurd h
-stops_telling m known papers game P a b (Keep fault) weaker h = absurd h
 
 -- a fault ended the reading of what comes next
-pub stops_reading : (m : Chart) (known : Option (List ℕ)) (papers : List (List ℕ)) (game : Option Row) (P : List ℕ → Type 0) (a b : Option (List ℕ)) (f g : RunFault)
+pub stops_reading : (m : Chart) (known : Option (List ℕ)) (papers : List (List ℕ)) (game : Option Row) (P : List ℕ → Type 0) (a b : Option (List ℕ)) (f g : CheckFault)
     → (f ≡ TooLong → (t : List ℕ) → P t → IsTooLong known papers t) → StopsReading f P a b g → StopsAfter m known papers game a b g
 stops_reading m known papers game P a b TooLong TooLong weaker h = (h.0, weaker refl h.0 h.1, h.2)
 stops_reading m known papers game P a b TooLong Memory weaker h = h
 stops_reading m known papers game P a b TooLong Write weaker h = begins_as P (IsToTell m known papers game) a b (λ t is. inr (inl (weaker refl t is))) h
 stops_reading m known papers game P a b TooLong Read weaker h = absurd h
-stops_reading m known papers game P a b TooLong (Keep fault) weaker h = absurd h
 stops_reading m known papers game P a b Read Read weaker h = h
 stops_reading m known papers game P a b Read TooLong weaker h = absurd h
 stops_reading m known papers game P a b Read Memory weaker h = absurd h
 stops_reading m known papers game P a b Read Write weaker h = absurd h
-stops_reading m known papers game P a b Read (Keep fault) weaker h = absurd h
 stops_reading m known papers game P a b Memory Memory weaker h = h
 stops_reading m known papers game P a b Memory TooLong weaker h = absurd h
 stops_reading m known papers game P a b Memory Read weaker h = absurd h
 stops_reading m known papers game P a b Memory Write weaker h = absurd h
-stops_reading m known papers game P a b Memory (Keep fault) weaker h = absurd h
 stops_reading m known papers game P a b Write TooLong weaker h = absurd h
 stops_reading m known papers game P a b Write Memory weaker h = absurd h
 stops_reading m known papers game P a b Write Read weaker h = absurd h
 stops_reading m known papers game P a b Write Write weaker h = absurd h
-stops_reading m known papers game P a b Write (Keep fault) weaker h = absurd h
-stops_reading m known papers game P a b (Keep of) TooLong weaker h = absurd h
-stops_reading m known papers game P a b (Keep of) Memory weaker h = absurd h
-stops_reading m known papers game P a b (Keep of) Read weaker h = absurd h
-stops_reading m known papers game P a b (Keep of) Write weaker h = absurd h
-stops_reading m known papers game P a b (Keep of) (Keep fault) weaker h = absurd h
 
-pub ends_early : (m : Chart) (known left before mid after : Option (List ℕ)) (game : Option Row) (ahead : Ahead) (f : RunFault) → (r : Reached m known left game ahead)
+pub ends_early : (m : Chart) (known left before mid after : Option (List ℕ)) (game : Option Row) (ahead : Ahead) (f : CheckFault) → (r : Reached m known left game ahead)
     → Appends before mid (flat_map right_text r.papers) → StopsAfter m known r.papers game mid after f → EndsEarly m known before after f
 ends_early m known left before mid after game ahead f r right stops = record {
   papers = r.papers;
@@ -284,9 +274,9 @@ ends_early m known left before mid after game ahead f r right stops = record {
 }
 
 -- writing failed
-pub stops_writing : (P : List ℕ → Type 0) (a b : Option (List ℕ)) (f : RunFault) (text : List ℕ) → f ≡ Write → P text → (size : ℕ) × Appends a b (take size text)
+pub stops_writing : (P : List ℕ → Type 0) (a b : Option (List ℕ)) (f : CheckFault) (text : List ℕ) → f ≡ Write → P text → (size : ℕ) × Appends a b (take size text)
     → StopsTelling P a b f
-stops_writing P a b f text is of begun = subst (λ (x : RunFault). StopsTelling P a b x) (sym is) (text, of, begun)
+stops_writing P a b f text is of begun = subst (λ (x : CheckFault). StopsTelling P a b x) (sym is) (text, of, begun)
 
 -- a movement's report has an order for each unit
 standing_units : (ps : List PlacedOrder) (us : List AUnit) → map (λ (o : PlacedOrder). o.unit) (map (order_among ps) us) ≡ us
@@ -370,13 +360,13 @@ empty_front front slice [] same after none =
 empty_front front slice (x ∷ xs) same after none = absurd (true≢false (none ∙ eqb-suc-zero (length xs)))
 
 -- a check's end
-pub ends_all : (m : Chart) (known left before mid after : Option (List ℕ)) (papers : List (List ℕ)) (game : Option Row) (r : Result Bool RunFault) → ArePlayed m papers game
+pub ends_all : (m : Chart) (known left before mid after : Option (List ℕ)) (papers : List (List ℕ)) (game : Option Row) (r : Result Bool CheckFault) → ArePlayed m papers game
     → IsAll known left papers → Appends before mid (flat_map right_text papers) → OnOk r (Appends mid after (end_text game)) → IfOk r (λ right. right ≡ is_some game)
     → IfOk r (IsChecked m known left before after)
 ends_all m known left before mid after papers game (Ok right) played all so_far told is = checked_all m known left before mid after papers game right played all so_far told is
 ends_all m known left before mid after papers game (Err f) played all so_far told is = tt
 
-pub ends_telling : (m : Chart) (known left before mid after : Option (List ℕ)) (game : Option Row) (ahead : Ahead) (P : List ℕ → Type 0) (o : Result Bool RunFault)
+pub ends_telling : (m : Chart) (known left before mid after : Option (List ℕ)) (game : Option Row) (ahead : Ahead) (P : List ℕ → Type 0) (o : Result Bool CheckFault)
     → (r : Reached m known left game ahead) → Appends before mid (flat_map right_text r.papers) → ((t : List ℕ) → P t → IsToTell m known r.papers game t)
     → IfErr o (StopsTelling P mid after) → IfErr o (EndsEarly m known before after)
 ends_telling m known left before mid after game ahead P (Ok right) r so_far weaker stops = tt
@@ -431,21 +421,20 @@ is_found m number known left papers game paper f played comes count h = record {
 }
 
 -- an explanation that was begun, or not come to
-pub begun_nothing : (m : Chart) (number : ℕ) (known left before after : Option (List ℕ)) (f : RunFault) → after ≡ before → IsReadingFault f
+pub begun_nothing : (m : Chart) (number : ℕ) (known left before after : Option (List ℕ)) (f : CheckFault) → after ≡ before → IsReadingFault f
     → EndsBegun m number known left before after f
 begun_nothing m number known left before after Read same is = same
 begun_nothing m number known left before after TooLong same is = same
 begun_nothing m number known left before after Memory same is = same
 begun_nothing m number known left before after Write same is = absurd is
-begun_nothing m number known left before after (Keep fault) same is = absurd is
 
-pub begun_some : (m : Chart) (number : ℕ) (known left before after : Option (List ℕ)) (f : RunFault) (text : List ℕ) (explained : Bool) → f ≡ Write
+pub begun_some : (m : Chart) (number : ℕ) (known left before after : Option (List ℕ)) (f : CheckFault) (text : List ℕ) (explained : Bool) → f ≡ Write
     → IsFound m number known left text explained → (size : ℕ) × Appends before after (take size text) → EndsBegun m number known left before after f
 begun_some m number known left before after f text explained is found begun =
-    subst (λ (x : RunFault). EndsBegun m number known left before after x) (sym is)
+    subst (λ (x : CheckFault). EndsBegun m number known left before after x) (sym is)
     (record { last = text; done = explained; found = found; size = begun.0; written = begun.1 })
 
 -- want of memory is a fault of reading too
-pub memory_reads : {A : Type 0} (r : Result A RunFault) → IfErr r (λ f. f ≡ Memory) → IfErr r IsReadingFault
+pub memory_reads : {A : Type 0} (r : Result A CheckFault) → IfErr r (λ f. f ≡ Memory) → IfErr r IsReadingFault
 memory_reads (Ok a) h = tt
-memory_reads (Err f) h = subst (λ (x : RunFault). IsReadingFault x) (sym h) tt
+memory_reads (Err f) h = subst (λ (x : CheckFault). IsReadingFault x) (sym h) tt

@@ -12,8 +12,8 @@ use Rattle.dip_turn.specs.declared.report.Report.{Report}
 use Rattle.dip_check_papers.specs.Games.{AreOfGame, IsNext, IsOpening, IsPhaseOf}
 use Rattle.dip_check_papers.specs.PaperTexts.{HasNoEnd}
 use Rattle.dip_explain.specs.Phases.{phase_explained}
-use Rattle.dip_judge_runs.specs.declared.run.RunFault.{RunFault}
-use Rattle.dip_judge_runs.specs.declared.run.RunFault.TheVariants.{Keep, Memory, Read, TooLong, Write}
+use Rattle.dip_check_runs.specs.declared.faults.CheckFault.{CheckFault}
+use Rattle.dip_check_runs.specs.declared.faults.CheckFault.TheVariants.{Memory, Read, TooLong, Write}
 use Rattle.dip_check_runs.specs.Input.{AreEmptyLines, HasUsed, HasUsedAll, IsAfterLines}
 use Rattle.dip_check_runs.specs.Texts.{count_text, empty_text, missing_text, no_phase_text, right_text, said_text, too_long_text}
 use Rattle.dip_check_runs.specs.declared.explaining.Found.{Found}
@@ -189,7 +189,7 @@ pub record IsExplained (m : Chart) (number : ℕ) (known left before after : Opt
   pub written : Appends before after last
 
 -- the input can't be read: by the reader's fault, its size, or want of memory
-abbrev pub IsReadingFault : RunFault → Type 0
+abbrev pub IsReadingFault : CheckFault → Type 0
 IsReadingFault Read = Unit {0}
 IsReadingFault TooLong = Unit {0}
 IsReadingFault Memory = Unit {0}
@@ -247,13 +247,13 @@ abbrev pub Begins : (List ℕ → Type 0) → Option (List ℕ) → Option (List
 Begins IsText before after = (text : List ℕ) × IsText text × ((size : ℕ) × Appends before after (take size text))
 
 -- a fault ended the telling of such a text: memory ran out before it, or writing failed
-abbrev pub StopsTelling : (List ℕ → Type 0) → Option (List ℕ) → Option (List ℕ) → RunFault → Type 0
+abbrev pub StopsTelling : (List ℕ → Type 0) → Option (List ℕ) → Option (List ℕ) → CheckFault → Type 0
 StopsTelling IsText before after Memory = after ≡ before
 StopsTelling IsText before after Write = Begins IsText before after
 StopsTelling IsText before after _ = ⊥
 
 -- reading stopped with a fault: nothing is told of it, but that bytes are too long, if that can be told
-abbrev pub StopsReading : RunFault → (List ℕ → Type 0) → Option (List ℕ) → Option (List ℕ) → RunFault → Type 0
+abbrev pub StopsReading : CheckFault → (List ℕ → Type 0) → Option (List ℕ) → Option (List ℕ) → CheckFault → Type 0
 StopsReading TooLong IsText before after TooLong = (text : List ℕ) × IsText text × Appends before after text
 StopsReading TooLong IsText before after fault = StopsTelling IsText before after fault
 StopsReading Read IsText before after Read = after ≡ before
@@ -262,15 +262,14 @@ StopsReading _ IsText before after _ = ⊥
 
 -- after the papers that were played a fault ended the check: nothing was told of what comes next; or that it is too long; or, where writing
 -- failed, a beginning of what was to be told
-abbrev pub StopsAfter : Chart → Option (List ℕ) → List (List ℕ) → Option Row → Option (List ℕ) → Option (List ℕ) → RunFault → Type 0
+abbrev pub StopsAfter : Chart → Option (List ℕ) → List (List ℕ) → Option Row → Option (List ℕ) → Option (List ℕ) → CheckFault → Type 0
 StopsAfter m known papers game before after Read = after ≡ before
 StopsAfter m known papers game before after Memory = after ≡ before
 StopsAfter m known papers game before after TooLong = (text : List ℕ) × IsTooLong known papers text × Appends before after text
 StopsAfter m known papers game before after Write = Begins (IsToTell m known papers game) before after
-StopsAfter m known papers game before after (Keep fault) = ⊥
 
 -- a check ended early: each of the first papers of the input was told right, which they are, and then a fault ended it
-pub record EndsEarly (m : Chart) (known before after : Option (List ℕ)) (fault : RunFault) : Type 0 where
+pub record EndsEarly (m : Chart) (known before after : Option (List ℕ)) (fault : CheckFault) : Type 0 where
   pub papers : List (List ℕ)
   pub game : Option Row
   pub played : ArePlayed m papers game
@@ -288,9 +287,8 @@ pub record IsBegun (m : Chart) (number : ℕ) (known left before after : Option 
   pub written : Appends before after (take size last)
 
 -- an explanation ended early: nothing was told; or, where writing failed, a beginning of what was to be told
-abbrev pub EndsBegun : Chart → ℕ → Option (List ℕ) → Option (List ℕ) → Option (List ℕ) → Option (List ℕ) → RunFault → Type 0
+abbrev pub EndsBegun : Chart → ℕ → Option (List ℕ) → Option (List ℕ) → Option (List ℕ) → Option (List ℕ) → CheckFault → Type 0
 EndsBegun m number known left before after Read = after ≡ before
 EndsBegun m number known left before after TooLong = after ≡ before
 EndsBegun m number known left before after Memory = after ≡ before
 EndsBegun m number known left before after Write = IsBegun m number known left before after
-EndsBegun m number known left before after (Keep fault) = ⊥

@@ -4,29 +4,29 @@ ghost use Rattle.std.specs.Io.KnownBytes.{Appends};
 ghost use Rattle.dip_check_runs.specs.Runs.{EndsEarly, HasBoard, IsChecked, IsReadingFault, IsSaid, StopsReading, StopsTelling, TellsIfGame, TellsOf, TellsTooLong, end_text};
 ghost use Rattle.dip_check_runs.specs.Texts as t;
 
+use crate::faults::CheckFault;
 use crate::input::{Ahead, next_front, nothing_ahead, skip_rest};
 use crate::papers::after_empty_lines;
 use crate::saying::{Said, say};
 use crate::texts::{count_text, said_text, too_long_text};
 use dip_check_papers::{papers_are_lines, papers_have_one_answer};
 use dip_desk_state::Public;
-use dip_judge_runs::RunFault;
 use dip_map::Map;
 use dip_streams::write_text;
 use std::alloc::{AllocError, Global};
 use std::io::{Read, Write};
 
 /// Writes a text, or a beginning of it.
-pub(crate) fn tell<W: Write>(writer: &mut W, text: &[u8]) -> Result<(), RunFault>
+pub(crate) fn tell<W: Write>(writer: &mut W, text: &[u8]) -> Result<(), CheckFault>
     ensures ok { OnOk result (Appends (W.contents writer.old) (W.contents writer.new) text.now) }
     ensures err { OnErr result
         ((size : ℕ)
         × Appends (W.contents writer.old) (W.contents writer.new) (take size text.now)) }
-    ensures fault { IfErr result (λ f. f ≡ RunFault.Write) }
+    ensures fault { IfErr result (λ f. f ≡ CheckFault.Write) }
 {
     match write_text(writer, text) {
         Ok(()) => Ok(()),
-        Err(_) => Err(RunFault::Write),
+        Err(_) => Err(CheckFault::Write),
     }
 }
 
@@ -47,7 +47,7 @@ fn judge_next<W: Write>(
     map: &Map,
     game: &Option<Public>,
     paper: &[u8],
-) -> Result<Said, RunFault>
+) -> Result<Said, CheckFault>
     requires { HasBoard map.now game.now }
     ensures said { IfOk result (IsSaid map.now game.now paper.now) }
     ensures told { IfOk result (λ said. Appends (W.contents writer.old) (W.contents writer.new)
@@ -56,9 +56,9 @@ fn judge_next<W: Write>(
         (W.contents writer.old) (W.contents writer.new)) }
 {
     match say(alloc, map, game, paper) {
-        Err(_) => Err(RunFault::Memory),
+        Err(_) => Err(CheckFault::Memory),
         Ok(said) => match said_text(alloc, paper, &said) {
-            Err(_) => Err(RunFault::Memory),
+            Err(_) => Err(CheckFault::Memory),
             Ok(text) => {
                 tell(writer, text.as_slice())?;
                 Ok(said)
@@ -73,7 +73,7 @@ fn tell_end<W: Write>(
     writer: &mut W,
     map: &Map,
     game: &Option<Public>,
-) -> Result<bool, RunFault>
+) -> Result<bool, CheckFault>
     ensures right { IfOk result (λ right. right ≡ is_some game.now) }
     ensures told { OnOk result
         (Appends (W.contents writer.old) (W.contents writer.new) (end_text game.now)) }
@@ -81,7 +81,7 @@ fn tell_end<W: Write>(
         (W.contents writer.old) (W.contents writer.new)) }
 {
     match end_text(alloc, game) {
-        Err(_) => Err(RunFault::Memory),
+        Err(_) => Err(CheckFault::Memory),
         Ok(text) => {
             tell(writer, text.as_bytes())?;
             Ok(game.is_some())
@@ -90,18 +90,23 @@ fn tell_end<W: Write>(
 }
 
 /// Tells of a paper that is longer than may be, where that is why the reading stops. The fault with which the check ends.
-fn tell_stop<W: Write>(alloc: Global, writer: &mut W, ahead: &Ahead, fault: RunFault) -> RunFault
+fn tell_stop<W: Write>(
+    alloc: Global,
+    writer: &mut W,
+    ahead: &Ahead,
+    fault: CheckFault,
+) -> CheckFault
     requires { IsReadingFault fault }
     ensures { StopsReading fault (TellsTooLong ahead.now.bytes.items) (W.contents writer.old)
         (W.contents writer.new) result }
 {
     match fault {
-        RunFault::TooLong => {
+        CheckFault::TooLong => {
             match too_long_text(alloc, after_empty_lines(ahead.bytes.as_slice())) {
-                Err(_) => RunFault::Memory,
+                Err(_) => CheckFault::Memory,
                 Ok(text) => match tell(writer, text.as_slice()) {
                     Err(fault) => fault,
-                    Ok(()) => RunFault::TooLong,
+                    Ok(()) => CheckFault::TooLong,
                 },
             }
         }
@@ -120,7 +125,7 @@ pub fn check_papers<R: Read, W: Write>(
     reader: &mut R,
     writer: &mut W,
     map: &Map,
-) -> Result<bool, RunFault>
+) -> Result<bool, CheckFault>
     ensures checked { IfOk result (IsChecked map.now (R.remaining reader.old)
         (R.remaining reader.new) (W.contents writer.old) (W.contents writer.new)) }
     ensures exact { IfOk result (TellsIfGame map.now (R.remaining reader.old)) }

@@ -5,6 +5,7 @@ ghost use Rattle.dip_check_runs.specs.Texts as t;
 ghost use Rattle.dip_map.specs.Boards.{IsOf};
 
 use crate::checking::tell;
+use crate::faults::CheckFault;
 use crate::input::{next_front, nothing_ahead, skip_rest};
 use crate::papers::after_empty_lines;
 use crate::saying::{Said, count_played, say, text_of};
@@ -12,7 +13,6 @@ use crate::texts::{missing_text, no_phase_text, said_text};
 use dip_check::phase_of;
 use dip_desk_state::Public;
 use dip_explain::explain_phase;
-use dip_judge_runs::RunFault;
 use dip_map::Map;
 use std::alloc::{AllocError, Global};
 use std::io::{Read, Write};
@@ -115,13 +115,13 @@ fn found_wrong(alloc: Global, paper: &[u8], said: &Said) -> Result<Found, AllocE
 }
 
 /// What was found, or that memory ran out.
-fn or_memory(found: Result<Found, AllocError>) -> Result<Found, RunFault>
+fn or_memory(found: Result<Found, AllocError>) -> Result<Found, CheckFault>
     ensures ok { IfOk result (λ f. found ≡ Ok f) }
-    ensures err { IfErr result (λ f. f ≡ RunFault.Memory) }
+    ensures err { IfErr result (λ f. f ≡ CheckFault.Memory) }
 {
     match found {
         Ok(found) => Ok(found),
-        Err(_) => Err(RunFault::Memory),
+        Err(_) => Err(CheckFault::Memory),
     }
 }
 
@@ -131,19 +131,19 @@ fn say_or_fault(
     map: &Map,
     game: &Option<Public>,
     paper: &[u8],
-) -> Result<Said, RunFault>
+) -> Result<Said, CheckFault>
     requires { HasBoard map.now game.now }
     ensures said { IfOk result (IsSaid map.now game.now paper.now) }
-    ensures fault { IfErr result (λ f. f ≡ RunFault.Memory) }
+    ensures fault { IfErr result (λ f. f ≡ CheckFault.Memory) }
 {
     match say(alloc, map, game, paper) {
         Ok(said) => Ok(said),
-        Err(_) => Err(RunFault::Memory),
+        Err(_) => Err(CheckFault::Memory),
     }
 }
 
 /// Reads papers up to the one of the number, or the first that is wrong, and finds what is to be told.
-fn find<R: Read>(alloc: Global, reader: &mut R, map: &Map, number: u32) -> Result<Found, RunFault>
+fn find<R: Read>(alloc: Global, reader: &mut R, map: &Map, number: u32) -> Result<Found, CheckFault>
     ensures found { IfOk result (λ f. IsFound map.now number (R.remaining reader.old)
         (R.remaining reader.new) f.text.items f.explained) }
     ensures fault { IfErr result IsReadingFault }
@@ -182,7 +182,7 @@ pub fn explain_paper<R: Read, W: Write>(
     writer: &mut W,
     map: &Map,
     number: u32,
-) -> Result<bool, RunFault>
+) -> Result<bool, CheckFault>
     ensures explained { IfOk result (IsExplained map.now number (R.remaining reader.old)
         (R.remaining reader.new) (W.contents writer.old) (W.contents writer.new)) }
     ensures ends { IfErr result (EndsBegun map.now number (R.remaining reader.old)

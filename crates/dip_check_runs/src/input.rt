@@ -3,8 +3,8 @@ ghost use Rattle.std.specs.Prelude.{◌≡◌, ◌++◌, ℕ, List, Option, [], 
 ghost use Rattle.dip_check_runs.specs.Input.{HasUsed, IsFront, IsNearer, IsRead, IsTakenFront, IsTooMuch};
 ghost use Rattle.dip_check_runs.specs.Runs.{IsReadingFault};
 
+use crate::faults::CheckFault;
 use crate::papers::paper_end;
-use dip_judge_runs::RunFault;
 use dip_streams::read_some;
 use std::alloc::Global;
 use std::io::Read;
@@ -32,40 +32,40 @@ pub(crate) fn nothing_ahead(alloc: Global) -> Ahead
 }
 
 /// Reads a piece more of an input that hasn't ended.
-fn read_piece<R: Read>(reader: &mut R, ahead: &mut Ahead) -> Result<(), RunFault>
+fn read_piece<R: Read>(reader: &mut R, ahead: &mut Ahead) -> Result<(), CheckFault>
     requires { ahead.old.ended ≡ false }
     ensures read { OnOk result ((known : Option (List ℕ)) (used : List ℕ)
         → IsRead known (R.remaining reader.old) used ahead.old
         → IsRead known (R.remaining reader.new) used ahead.new) }
     ensures nearer { OnOk result (IsNearer ahead.old ahead.new) }
-    ensures short { IsErrOf result RunFault.TooLong → ⊥ }
+    ensures short { IsErrOf result CheckFault.TooLong → ⊥ }
     ensures fault { IfErr result IsReadingFault }
 {
     let mut buffer = [0u8; 16384];
     match read_some(reader, &mut buffer) {
-        Err(_) => Err(RunFault::Read),
+        Err(_) => Err(CheckFault::Read),
         Ok(0) => match ahead.bytes.push(b'\n') {
-            Err(_) => Err(RunFault::Memory),
+            Err(_) => Err(CheckFault::Memory),
             Ok(()) => {
                 ahead.ended = true;
                 Ok(())
             }
         },
         Ok(count) => match ahead.bytes.extend_from_slice(&buffer[..count]) {
-            Err(_) => Err(RunFault::Memory),
+            Err(_) => Err(CheckFault::Memory),
             Ok(()) => Ok(()),
         },
     }
 }
 
 /// How many bytes ahead are the next paper with the empty lines before it, or all that is left.
-fn front_size<R: Read>(reader: &mut R, ahead: &mut Ahead) -> Result<usize, RunFault>
+fn front_size<R: Read>(reader: &mut R, ahead: &mut Ahead) -> Result<usize, CheckFault>
     ensures read { OnOk result ((known : Option (List ℕ)) (used : List ℕ)
         → IsRead known (R.remaining reader.old) used ahead.old
         → IsRead known (R.remaining reader.new) used ahead.new) }
     ensures front { IfOk result (IsFront ahead.new) }
-    ensures long { IsErrOf result RunFault.TooLong → IsTooMuch ahead.new }
-    ensures still { IsErrOf result RunFault.TooLong → (known : Option (List ℕ)) (used : List ℕ)
+    ensures long { IsErrOf result CheckFault.TooLong → IsTooMuch ahead.new }
+    ensures still { IsErrOf result CheckFault.TooLong → (known : Option (List ℕ)) (used : List ℕ)
         → IsRead known (R.remaining reader.old) used ahead.old
         → IsRead known (R.remaining reader.new) used ahead.new }
     ensures fault { IfErr result IsReadingFault }
@@ -78,7 +78,7 @@ fn front_size<R: Read>(reader: &mut R, ahead: &mut Ahead) -> Result<usize, RunFa
             return Ok(ahead.bytes.len());
         }
         if MOST_PAPER < ahead.bytes.len() {
-            return Err(RunFault::TooLong);
+            return Err(CheckFault::TooLong);
         }
         read_piece(reader, ahead)?;
     }
@@ -88,20 +88,20 @@ fn front_size<R: Read>(reader: &mut R, ahead: &mut Ahead) -> Result<usize, RunFa
 ///
 /// # Errors
 /// `Read`, `TooLong` where more than `MOST_PAPER` bytes have no end of a paper, or `Memory`.
-pub(crate) fn next_front<R: Read>(reader: &mut R, ahead: &mut Ahead) -> Result<Vec<u8>, RunFault>
+pub(crate) fn next_front<R: Read>(reader: &mut R, ahead: &mut Ahead) -> Result<Vec<u8>, CheckFault>
     ensures read { IfOk result (λ v. (known : Option (List ℕ)) (used : List ℕ)
         → IsRead known (R.remaining reader.old) used ahead.old
         → IsRead known (R.remaining reader.new) (used ++ v.items) ahead.new) }
     ensures front { IfOk result (λ v. IsTakenFront v.items ahead.new) }
-    ensures long { IsErrOf result RunFault.TooLong → IsTooMuch ahead.new }
-    ensures still { IsErrOf result RunFault.TooLong → (known : Option (List ℕ)) (used : List ℕ)
+    ensures long { IsErrOf result CheckFault.TooLong → IsTooMuch ahead.new }
+    ensures still { IsErrOf result CheckFault.TooLong → (known : Option (List ℕ)) (used : List ℕ)
         → IsRead known (R.remaining reader.old) used ahead.old
         → IsRead known (R.remaining reader.new) used ahead.new }
     ensures fault { IfErr result IsReadingFault }
 {
     let size = front_size(reader, ahead)?;
     match ahead.bytes.split_off(size) {
-        Err(_) => Err(RunFault::Memory),
+        Err(_) => Err(CheckFault::Memory),
         Ok(rest) => Ok(mem::replace(&mut ahead.bytes, rest)),
     }
 }

@@ -4,6 +4,7 @@
 
 mod checking;
 mod explaining;
+mod faults;
 mod input;
 mod papers;
 mod saying;
@@ -11,4 +12,5 @@ mod texts;
 
 pub use checking::check_papers;
 pub use explaining::explain_paper;
+pub use faults::CheckFault;
 pub use input::MOST_PAPER;

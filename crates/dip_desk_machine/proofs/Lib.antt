@@ -15,3 +15,4 @@ pub mod Fitting
 pub mod Histories
 pub mod Publishing
 pub mod Once
+pub mod RunLemmas

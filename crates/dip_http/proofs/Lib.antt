@@ -10,3 +10,4 @@ pub mod OneAnswer
 pub mod PublicAnswers
 pub mod Posts
 pub mod ServingLemmas
+pub mod KeptLemmas

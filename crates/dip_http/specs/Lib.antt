@@ -3,3 +3,4 @@ pub mod Ends
 pub mod Faults
 pub mod Laws
 pub mod Serving
+pub mod Timing

@@ -1,4 +1,10 @@
 //! What is read of a client within a time, however slowly it writes.
+ghost use Rattle.std.specs.Duration.{as_nanos};
+ghost use Rattle.std.specs.Prelude.{◌≡◌, ◌≤◌, IfOk, None, OnOk, false, true};
+ghost use Rattle.std.specs.Io.{ReadsAtMost};
+ghost use Rattle.std.specs.Io.KnownBytes.{ReadConsumes};
+ghost use Rattle.dip_http.specs.Timing.{dropping_limit, limit_after, silent_limit};
+
 use std::io;
 use std::io::{ErrorKind, Read};
 use std::net::TcpStream;
@@ -31,7 +37,10 @@ impl<'a, C: Clock> Timed<'a, C> {
     ///
     /// # Errors
     /// The clock's.
-    pub fn new(stream: &'a TcpStream, clock: &'a C) -> io::Result<Timed<'a, C>> {
+    pub fn new(stream: &'a TcpStream, clock: &'a C) -> io::Result<Timed<'a, C>>
+        ensures limit { IfOk result (λ t. as_nanos t.limit ≡ silent_limit) }
+        ensures silent { IfOk result (λ t. t.is_silent ≡ true) }
+    {
         Ok(Timed {
             stream,
             clock,
@@ -45,7 +54,10 @@ impl<'a, C: Clock> Timed<'a, C> {
     ///
     /// # Errors
     /// The clock's.
-    pub fn begin_dropping(&mut self) -> io::Result<()> {
+    pub fn begin_dropping(&mut self) -> io::Result<()>
+        ensures limit { OnOk result (as_nanos self.new.limit ≡ dropping_limit) }
+        ensures silent { OnOk result (self.new.is_silent ≡ false) }
+    {
         self.start = Instant::now(self.clock)?;
         self.limit = Duration::from_millis(MOST_DROPPING_MILLIS);
         self.is_silent = false;
@@ -53,14 +65,23 @@ impl<'a, C: Clock> Timed<'a, C> {
     }
 
     /// What is left of the limit by the clock, which is nothing once it has passed.
-    fn time_left(&self) -> io::Result<Duration> {
+    fn time_left(&self) -> io::Result<Duration>
+        ensures { IfOk result (λ left. as_nanos left ≤ as_nanos self.now.limit) }
+    {
         let gone = self.start.elapsed(self.clock)?;
         Ok(self.limit.saturating_sub(gone))
     }
 }
 
 impl<C: Clock> Read for Timed<'_, C> {
-    fn read(&mut self, buffer: &mut [u8]) -> io::Result<usize> {
+    // The time runs on from its start, whatever comes.
+    fn read(&mut self, buffer: &mut [u8]) -> io::Result<usize>
+        ensures bound { ReadsAtMost result buffer.new }
+        ensures bytes { ReadConsumes None None result buffer.new }
+        ensures start { self.new.start ≡ self.old.start }
+        ensures limit { as_nanos self.new.limit
+            ≡ limit_after result self.old.is_silent (as_nanos self.old.limit) }
+    {
         let left = self.time_left()?;
         if left.is_zero() {
             return Err(ErrorKind::TimedOut.into());

@@ -1,6 +1,6 @@
 //! The program over what the system hands it.
 
-use dip_judge_commands::{Failure, run_as_asked, status_of};
+use dip_judge_commands::{Failure, System, run_as_asked, status_of};
 use sqlite::Unknown;
 use std::{env, io};
 
@@ -14,7 +14,8 @@ fn answer_the_system(rt: &HostRuntime) -> Result<(), Failure> {
         .collect::<Vec<&str>>(alloc)?;
     let mut reader = rt.reader();
     let mut writer = io::writer(rt);
-    run_as_asked(rt, Unknown, texts.as_slice(), &mut reader, &mut writer)
+    let system = System::new(rt);
+    run_as_asked(&system, Unknown, texts.as_slice(), &mut reader, &mut writer)
 }
 
 /// The whole program: does what its words ask for, tells a failure on standard error, and gives the exit status.

@@ -1,5 +1,5 @@
 -- From what a file held to what its store says after a command.
-use Rattle.std.proofs.Common.{◌≡◌, ◌∙◌, Err, IfErr, IfSome, List, OnOk, Ok, Option, Result, Some, inl, inr, subst, sym, ℕ}
+use Rattle.std.proofs.Common.{◌≡◌, ◌∙◌, ◌⊎◌, Err, IfErr, IfSome, List, OnOk, Ok, Option, Result, Some, inl, inr, subst, sym, ℕ}
 use Rattle.std.proofs.lemmas.Bool.{false≢true}
 use Rattle.sqlite_disk.specs.declared.Disk as disk
 use Rattle.sqlite.specs.Store.{Ghosts}
@@ -13,14 +13,16 @@ use Rattle.sqlite.specs.State.{HasCleanDisk}
 use Rattle.dip_map.specs.Charts.{Chart}
 use Rattle.dip_desk_state.specs.State.{State}
 use Rattle.dip_store.specs.Calls.{is_honest}
+use Rattle.dip_store.specs.Causes.{has_faulted}
 use Rattle.dip_store.specs.Opening.{IsDesk, IsMadeForText, IsNowOf, IsShutBy, IsShutFor}
 use Rattle.dip_store.specs.StoreFault.{StoreFault}
 use Rattle.dip_judge_words.specs.declared.args.Args.{Args}
 use Rattle.dip_judge_commands.proofs.StoredLemmas.{some_fault}
 use Rattle.dip_judge_commands.specs.Files.{FromHeld, HasFaults, HeldDesk, IsFoundIn, LeavesStore, StopsStore, TellsOfFile, TellsStore, WasMadeFor, WasOpened, WasShutFor}
+use Rattle.dip_judge_commands.specs.Lasting.{HeldLawful, Lasts, LastsAs, LastsFrom, LastsServing}
 use Rattle.dip_judge_commands.specs.Stores.{TellsOfStore}
 use Rattle.dip_judge_commands.specs.declared.failures.Failure.{Failure}
-use Rattle.dip_judge_commands.specs.declared.failures.Failure.TheVariants.{Listen, Map, NoGame, NoMemory, Negative, Papers, Run, Serving, Store, Usage}
+use Rattle.dip_judge_commands.specs.declared.failures.Failure.TheVariants.{Checking, Listen, Map, NoGame, NoMemory, Negative, Papers, Run, Serving, Store, Usage}
 
 module _ {D : Type 0} {g : disk.Ghosts D} (image : Image) (m : Chart) (first : Held (FileStore D g)) (opened : HasCleanDisk (file_state first) → IsOpened first)
     (found : HasCleanDisk (file_state first) → FindsIn image (file_state first)) where
@@ -73,9 +75,24 @@ module _ {D : Type 0} {g : disk.Ghosts D} (image : Image) (m : Chart) (first : H
     tells_of_file (Err (Serving fault)) made = was_made_for made
     tells_of_file (Err NoGame) made = was_made_for made
     tells_of_file (Err Negative) made = was_made_for made
+    tells_of_file (Err (Checking fault)) made = was_made_for made
     tells_of_file (Err (Papers fault)) made = was_made_for made
 
   module _ (last : Held (FileStore D g)) (fair : is_honest over_files last → HasCleanDisk (file_state first)) where
+    -- a lawful desk of the file is one of the store
+    pub lasts_in : (Lasting : Type 0) → LastsFrom over_files m first last Lasting → is_honest over_files last → HeldLawful image m → Lasting
+    lasts_in Lasting lasts clean held =
+        let it = opened (fair clean) in
+        let said = held (file_state first).now (is_found (fair clean)) in
+        lasts clean said.0 (record { shows = (fair clean, it.0.is_open); idle = it.0.autocommit; says = said.1 }) said.2
+
+    pub lasts_serving : (result : Result (Unit {0}) Failure) → LastsFrom over_files m first last (Lasts over_files m last result ⊎ has_faulted over_files first last)
+        → LastsServing over_files image m last result
+    lasts_serving result lasts clean held = elim (lasts_in _ lasts clean held) [
+      | inl it ↦ inl it
+      | inr fault ↦ inr (some_fault over_files first last fault)
+    ]
+
     from_held : (P : State → Held (FileStore D g) → Type 0) → (is_honest over_files last → (s : State) → IsDesk over_files m s first → P s last) → FromHeld over_files image m P last
     from_held P does clean s held = does clean s (is_held (fair clean) s held)
 
@@ -95,6 +112,9 @@ module _ {S : Type 0} (g : Ghosts S) (image : Image) (m : Chart) (known left bef
   -- what is asked for, by another name
   pub tells_as : (text : List ℕ) → IfSome opened (λ store. TellsStore g image m text b store r) → IfSome opened (λ store. TellsStore g image m text a store r)
   tells_as text tells = subst (λ a. IfSome opened (λ store. TellsStore g image m text a store r)) (sym is) tells
+
+  pub lasts_as : IfSome opened (λ store. LastsAs g image m b store r) → IfSome opened (λ store. LastsAs g image m a store r)
+  lasts_as lasts = subst (λ a. IfSome opened (λ store. LastsAs g image m a store r)) (sym is) lasts
 
   pub leaves_as : OnOk r (LeavesStore g image m known left before after b opened) → OnOk r (LeavesStore g image m known left before after a opened)
   leaves_as leaves = subst (λ a. OnOk r (LeavesStore g image m known left before after a opened)) (sym is) leaves

@@ -23,7 +23,7 @@ use Rattle.dip_store.specs.declared.keeper.SqlKeeper.{SqlKeeper}
 use Rattle.dip_judge_commands.specs.Stores.{AnswersFrom, ReadsUpTo, Reports, ServesFrom, ServesUpTo, StopsFrom, StopsIn, StopsReport, StopsServing}
 use Rattle.dip_http.specs.Serving.{Serves, ServesEach, ServesTo}
 use Rattle.dip_judge_commands.specs.declared.failures.Failure.{Failure}
-use Rattle.dip_judge_commands.specs.declared.failures.Failure.TheVariants.{Listen, Map, NoGame, NoMemory, Negative, Papers, Run, Serving, Store, Usage}
+use Rattle.dip_judge_commands.specs.declared.failures.Failure.TheVariants.{Checking, Listen, Map, NoGame, NoMemory, Negative, Papers, Run, Serving, Store, Usage}
 
 -- an opened keeper is open
 pub is_open : {S : Type 0} (g : Ghosts S) (m : Chart) (s : State) (k : SqlKeeper S) → Opens g m s k → IsOpen m (book g) k
@@ -122,6 +122,7 @@ module _ {S : Type 0} (g : Ghosts S) (m : Chart) (F G : Type 0) (turn : F → G)
   stops_as_of (Serving fault) it = absurd it
   stops_as_of NoGame it = absurd it
   stops_as_of Negative it = absurd it
+  stops_as_of (Checking fault) it = absurd it
   stops_as_of (Papers fault) it = absurd it
 
 -- more faults than before are some
@@ -198,6 +199,7 @@ module _ {S : Type 0} (g : Ghosts S) (m : Chart) (F G : Type 0) (turn : F → G)
   report_as name before after Listen it = absurd it.0
   report_as name before after (Serving fault) it = absurd it.0
   report_as name before after Negative it = absurd it.0
+  report_as name before after (Checking fault) it = absurd it.0
 
   pub serving_as : (count : ℕ) (failure : Failure) → StopsServing g m F Was count old new failure → StopsServing g m G Will count old new failure
   serving_as count (Store fault) it = shut_as g m F G turn new old Was Will will it
@@ -215,6 +217,7 @@ module _ {S : Type 0} (g : Ghosts S) (m : Chart) (F G : Type 0) (turn : F → G)
   serving_as count (Run fault) it = absurd it
   serving_as count NoGame it = absurd it
   serving_as count Negative it = absurd it
+  serving_as count (Checking fault) it = absurd it
   serving_as count (Papers fault) it = absurd it
 
 -- papers that are out are a report

@@ -3,6 +3,7 @@ use Rattle.std.specs.Prelude.{ℕ, List, [], ◌++◌, Option, None, Some, Resul
 use Rattle.std.specs.Fmt.{decimal}
 use Rattle.std.specs.declared.io.ErrorKind.{ErrorKind}
 use Rattle.std.specs.declared.io.ErrorKind.TheVariants.{OutOfMemory}
+use Rattle.dip_check_runs.specs.Faults.{check_fault_name}
 use Rattle.dip_store.specs.Papers.{paper_fault_name}
 use Rattle.dip_store.specs.declared.paper_faults.PaperFault.TheVariants as paper
 use Rattle.dip_judge_words.specs.declared.faults.UsageFault.{UsageFault}
@@ -13,7 +14,7 @@ use Rattle.dip_judge_runs.specs.declared.map_file.NoMap.TheVariants as no_map
 use Rattle.dip_judge_runs.specs.declared.run.RunFault.TheVariants as run
 use Rattle.dip_store.specs.Faults.{store_fault_name}
 use Rattle.dip_judge_commands.specs.declared.failures.Failure.{Failure}
-use Rattle.dip_judge_commands.specs.declared.failures.Failure.TheVariants.{Usage, Map, Store, NoMemory, Listen, Run, Serving, NoGame, Papers, Negative}
+use Rattle.dip_judge_commands.specs.declared.failures.Failure.TheVariants.{Usage, Map, Store, NoMemory, Listen, Run, Serving, NoGame, Papers, Checking, Negative}
 
 -- the exit status: 1 where the answer is no, 2 for the arguments, 3 for the map, 4 for the store, its keeper and a game that isn't there, 5 for a map's file, the
 -- port, input, output or other want of memory
@@ -31,6 +32,7 @@ status_of (Serving fault) = 4
 status_of NoGame = 4
 status_of (Papers (paper.Keep fault)) = 4
 status_of (Papers paper.Write) = 5
+status_of (Checking fault) = 5
 status_of Negative = 1
 
 -- the exit status of the program: 0 where it did what was asked
@@ -55,6 +57,7 @@ printed (Run fault) = told (run_name fault)
 printed (Serving fault) = told (keep_fault_name fault)
 printed NoGame = Some (codes "dip_judge: no such game\n")
 printed (Papers fault) = told (paper_fault_name fault)
+printed (Checking fault) = told (check_fault_name fault)
 printed Negative = Some []
 
 -- what `serve` tells once its port is listened on

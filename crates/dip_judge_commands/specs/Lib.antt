@@ -2,4 +2,5 @@ pub mod Stores
 pub mod Failures
 pub mod Version
 pub mod Files
+pub mod Lasting
 pub mod Asked

@@ -1,5 +1,5 @@
 -- What is done over a store.
-use Rattle.std.specs.Prelude.{◌≡◌, ◌≤◌, ◌⊎◌, ℕ, Err, IsSome, List, None, Option, Result}
+use Rattle.std.specs.Prelude.{◌≡◌, ◌≤◌, ◌⊎◌, ℕ, Err, IsSome, List, None, Ok, Option, Result}
 use Rattle.std.specs.Io.KnownBytes.{Appends}
 use Rattle.sqlite.specs.Effect.{Database}
 use Rattle.sqlite.specs.Store.{Ghosts}
@@ -12,7 +12,7 @@ use Rattle.dip_store.specs.Opening.{Holds, IsMadeForText, IsShutBy, StaysShut, S
 use Rattle.dip_store.specs.StoreFault.{StoreFault}
 use Rattle.dip_store.specs.StoreFault.TheVariants.{Memory, Disk, OtherSchema}
 use Rattle.dip_judge_runs.specs.RunFaults.{StopsBy}
-use Rattle.dip_judge_runs.specs.Runs.{AnswersAll, IsReadWhole, Stops, TakesNext}
+use Rattle.dip_judge_runs.specs.Runs.{AnswersAll, IsReadToEnd, IsReadWhole, Stops, TakesNext}
 use Rattle.dip_judge_runs.specs.declared.run.RunFault.{RunFault}
 use Rattle.dip_http.specs.Serving.{IsShut, Serves, TakesOne}
 use Rattle.dip_judge_commands.specs.declared.failures.Failure.{Failure}
@@ -71,6 +71,11 @@ abbrev pub ReadsUpTo : Option (List ℕ) → Option (List ℕ) → Option (List 
 ReadsUpTo known left before after (Store fault) = IsIdle known left before after
 ReadsUpTo known left before after (Run fault) = StopsBy fault known left before after (tt {0}) (tt {0})
 ReadsUpTo known left before after failure = ⊥
+
+-- the input was read to its end, or up to a failure
+abbrev pub ReadsInput : Option (List ℕ) → Option (List ℕ) → Option (List ℕ) → Option (List ℕ) → Result (Unit {0}) Failure → Type 0
+ReadsInput known left before after (Ok done) = IsReadToEnd known left
+ReadsInput known left before after (Err failure) = ReadsUpTo known left before after failure
 
 -- all papers of the game were written, in their order and nothing else
 abbrev pub Reports : List ℕ → State → Option (List ℕ) → Option (List ℕ) → Type 0

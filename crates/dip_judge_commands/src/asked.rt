@@ -4,17 +4,18 @@ ghost use Rattle.sqlite.specs.Files.{over_files};
 ghost use Rattle.sqlite.specs.WalFiles.{image_at};
 ghost use Rattle.dip_judge_commands.specs.Asked.{Fails, IsAskedFor, IsAskedOver, IsDone, IsFailed, IsInitFailure, Streams};
 ghost use Rattle.dip_judge_commands.specs.Files.{AnswersIn, AnswersUpTo, LeavesStore, MadeIn, ReportsIn, ServesIn, StopsReportIn, StopsServingIn, StopsStore, TellsOfFile, TellsStore, UnmadeIn, WasOpened};
-ghost use Rattle.dip_judge_commands.specs.Stores.{IsReportFailure, IsServeFailure, ReadsUpTo};
-ghost use Rattle.dip_judge_runs.specs.Runs.{IsReadToEnd};
+ghost use Rattle.dip_judge_commands.specs.Lasting.{LastsAs, LastsIn, LastsServing, LeavesLawful};
+ghost use Rattle.dip_judge_commands.specs.Stores.{IsReportFailure, IsServeFailure, ReadsInput};
 ghost use Rattle.dip_store.specs.Calls.{is_honest};
 ghost use Rattle.dip_store.specs.Opening.{SaysText};
 
 use crate::checking::{check, explain};
 use crate::failures::Failure;
-use crate::files::{Stored, close_file, open_new, open_present};
-use crate::stored::{answer_stored, make_desk, report_stored, serve_stored};
+use crate::stored::{answer_stored, close_file, make_desk, report_stored, serve_stored};
+use crate::system::{Stored, System};
 use crate::version::write_version;
-use dip_judge_runs::{answer_letters, read_map, text_said};
+use dip_desk_machine::new_desks_are_lawful;
+use dip_judge_runs::{answer_letters, text_said};
 use dip_judge_words::{Args, read_args};
 use dip_map::{Map, STANDARD};
 use sqlite::Start;
@@ -22,7 +23,7 @@ use std::io::{Read, Write};
 
 /// Makes a desk in the store of a file, which is handed back where it was opened.
 fn init_file<S: Start>(
-    rt: &HostRuntime,
+    system: &System<'_>,
     start: S,
     path: &str,
     map: &Map,
@@ -36,10 +37,13 @@ fn init_file<S: Start>(
     ensures failed { IfErr result.0 IsInitFailure }
     ensures tells { IfSome result.1 (λ store. is_honest over_files store
         → OnOk result.0 (SaysText over_files text.now store)) }
+    ensures lasts { IfSome result.1 (λ store. is_honest over_files store
+        → OnOk result.0 (LeavesLawful over_files map.now store)) }
 {
-    match open_new(rt, start, path) {
+    new_desks_are_lawful();
+    match system.open_new(start, path) {
         Err(fault) => (Err(Failure::Store(fault)), None),
-        Ok(store) => match make_desk(rt.alloc(), store, map, text, master) {
+        Ok(store) => match make_desk(system.alloc(), store, map, text, master) {
             (Ok(()), store) => (Ok(()), Some(store)),
             (Err(fault), store) => (Err(Failure::Store(fault)), Some(store)),
         },
@@ -48,7 +52,7 @@ fn init_file<S: Start>(
 
 /// Answers the letters of a reader from the desk of a file on. The store is handed back where it was opened.
 fn answer_file<S: Start, R: Read, W: Write>(
-    rt: &HostRuntime,
+    system: &System<'_>,
     start: S,
     path: &str,
     map: &Map,
@@ -62,17 +66,17 @@ fn answer_file<S: Start, R: Read, W: Write>(
     ensures stops { IfErr result.0 (λ f. IfSome result.1
         (AnswersUpTo over_files (image_at S.Start) map.now (R.remaining reader.old)
         (R.remaining reader.new) (W.contents writer.old) (W.contents writer.new) f)) }
-    ensures read { OnOk result.0 (IsReadToEnd (R.remaining reader.old) (R.remaining reader.new)) }
-    ensures failed { IfErr result.0
-        (ReadsUpTo (R.remaining reader.old) (R.remaining reader.new) (W.contents writer.old)
-        (W.contents writer.new)) }
+    ensures reads { ReadsInput (R.remaining reader.old) (R.remaining reader.new)
+        (W.contents writer.old) (W.contents writer.new) result.0 }
     ensures tells { IfSome result.1 (λ store.
         TellsOfFile over_files (image_at S.Start) map.now text.now store result.0) }
+    ensures lasts { IfSome result.1 (λ store.
+        LastsIn over_files (image_at S.Start) map.now store result.0) }
 {
-    match open_present(rt, start, path) {
+    match system.open_present(start, path) {
         Err(fault) => (Err(Failure::Store(fault)), None),
         Ok(store) => {
-            let (answered, store) = answer_stored(rt.alloc(), store, map, text, reader, writer);
+            let (answered, store) = answer_stored(system.alloc(), store, map, text, reader, writer);
             (answered, Some(store))
         }
     }
@@ -80,7 +84,7 @@ fn answer_file<S: Start, R: Read, W: Write>(
 
 /// Serves so many clients on a port from the desk of a file on. The store is handed back where it was opened.
 fn serve_file<S: Start>(
-    rt: &HostRuntime,
+    system: &System<'_>,
     start: S,
     path: &str,
     map: &Map,
@@ -95,11 +99,13 @@ fn serve_file<S: Start>(
     ensures failed { IfErr result.0 IsServeFailure }
     ensures tells { IfSome result.1 (λ store.
         TellsOfFile over_files (image_at S.Start) map.now text.now store result.0) }
+    ensures lasts { IfSome result.1 (λ store.
+        LastsServing over_files (image_at S.Start) map.now store result.0) }
 {
-    match open_present(rt, start, path) {
+    match system.open_present(start, path) {
         Err(fault) => (Err(Failure::Store(fault)), None),
         Ok(store) => {
-            let (served, store) = serve_stored(rt, store, map, text, port, count);
+            let (served, store) = serve_stored(system, store, map, text, port, count);
             (served, Some(store))
         }
     }
@@ -107,7 +113,7 @@ fn serve_file<S: Start>(
 
 /// Writes all papers of a game of the desk of a file. The store is handed back where it was opened.
 fn report_file<S: Start, W: Write>(
-    rt: &HostRuntime,
+    system: &System<'_>,
     start: S,
     path: &str,
     map: &Map,
@@ -123,11 +129,13 @@ fn report_file<S: Start, W: Write>(
     ensures failed { IfErr result.0 IsReportFailure }
     ensures tells { IfSome result.1 (λ store.
         TellsOfFile over_files (image_at S.Start) map.now text.now store result.0) }
+    ensures lasts { IfSome result.1 (λ store.
+        LastsIn over_files (image_at S.Start) map.now store result.0) }
 {
-    match open_present(rt, start, path) {
+    match system.open_present(start, path) {
         Err(fault) => (Err(Failure::Store(fault)), None),
         Ok(store) => {
-            let (reported, store) = report_stored(rt.alloc(), store, map, text, game, writer);
+            let (reported, store) = report_stored(system.alloc(), store, map, text, game, writer);
             (reported, Some(store))
         }
     }
@@ -135,7 +143,7 @@ fn report_file<S: Start, W: Write>(
 
 /// Does what is asked for, over a map of which this is the text.
 fn do_asked<S: Start, R: Read, W: Write>(
-    rt: &HostRuntime,
+    system: &System<'_>,
     start: S,
     args: &Args<'_>,
     map: &Map,
@@ -155,41 +163,43 @@ fn do_asked<S: Start, R: Read, W: Write>(
         (W.contents writer.new) args.now f)) }
     ensures tells { IfSome result.1 (λ store.
         TellsStore over_files (image_at S.Start) map.now text.now args.now store result.0) }
+    ensures lasts { IfSome result.1 (λ store.
+        LastsAs over_files (image_at S.Start) map.now args.now store result.0) }
 {
     match args {
-        Args::Init { store, master, .. } => init_file(rt, start, store, map, text, master),
+        Args::Init { store, master, .. } => init_file(system, start, store, map, text, master),
         Args::Letters { master, .. } => {
-            match answer_letters(rt.alloc(), reader, writer, master, map) {
+            match answer_letters(system.alloc(), reader, writer, master, map) {
                 Ok(()) => (Ok(()), None),
                 Err(fault) => (Err(Failure::Run(fault)), None),
             }
         }
-        Args::Stored { store, .. } => answer_file(rt, start, store, map, text, reader, writer),
+        Args::Stored { store, .. } => answer_file(system, start, store, map, text, reader, writer),
         Args::Serve {
             store,
             port,
             count,
             ..
-        } => serve_file(rt, start, store, map, text, *port, *count),
+        } => serve_file(system, start, store, map, text, *port, *count),
         Args::Report { store, game, .. } => {
-            report_file(rt, start, store, map, text, game, writer)
+            report_file(system, start, store, map, text, game, writer)
         }
-        Args::Check { .. } => (check(rt.alloc(), reader, writer, map), None),
-        Args::Explain { paper, .. } => (explain(rt.alloc(), reader, writer, map, *paper), None),
+        Args::Check { .. } => (check(system.alloc(), reader, writer, map), None),
+        Args::Explain { paper, .. } => (explain(system.alloc(), reader, writer, map, *paper), None),
         Args::Version => (write_version(writer), None),
     }
 }
 
-/// Does what the words ask for, the program's own name being the first of them, over the map of the file that is named, or the standard
-/// map: makes a desk in a store; answers the letters of the reader, from a fresh desk on in memory or from a store's desk on; serves
-/// clients; writes a game's papers; checks the papers that the reader has, or explains one; or writes what the program is. A store lies in the file that is named, of which `start` says what it holds at first. It is
-/// handed back where it was opened.
+/// Does what the words ask for, of which the first is the program's own name, over the map of the file that is named, or the standard
+/// map: makes a desk in a store; answers the letters of the reader, from a fresh desk in memory or from a store's desk on; serves
+/// clients; writes a game's papers; checks the papers that the reader has, or explains one; or writes what the program is. The store is
+/// that of the file that is named, which held at first what `start` says; it is handed back where it was opened.
 ///
 /// # Errors
-/// The first that is found of: what is wrong with the words, with the map's file, with the map; and nothing is read or written.
-/// Else what is wrong with the store, the port, the game, the input or the output.
+/// The first of: what is wrong with the words, with the map's file, with the map; and nothing is read or written. Else what is wrong
+/// with the store, the port, the game, the input or the output.
 pub fn do_as_asked<S: Start, R: Read, W: Write>(
-    rt: &HostRuntime,
+    system: &System<'_>,
     start: S,
     words: &[&str],
     reader: &mut R,
@@ -207,18 +217,21 @@ pub fn do_as_asked<S: Start, R: Read, W: Write>(
     ensures tells { IfSome result.1 (λ store. IsAskedOver STANDARD.now
         (each (λ w. w.now) words.entry.now)
         (λ a m text. TellsStore over_files (image_at S.Start) m text a store result.0)) }
+    ensures lasts { IfSome result.1 (λ store. IsAskedFor STANDARD.now
+        (each (λ w. w.now) words.entry.now)
+        (λ a m. LastsAs over_files (image_at S.Start) m a store result.0)) }
     ensures stops { IfErr result.0 (λ f. IfSome result.1 (λ store. IsAskedFor STANDARD.now
         (each (λ w. w.now) words.entry.now) (λ a m. StopsStore over_files (image_at S.Start) m
         (R.remaining reader.old) (R.remaining reader.new) (W.contents writer.old)
         (W.contents writer.new) a f store))) }
 {
-    let alloc = rt.alloc();
+    let alloc = system.alloc();
     match read_args(alloc, words) {
         Err(fault) => (Err(Failure::Usage(fault)), None),
-        Ok(args) => match read_map(rt, alloc, args.map()) {
+        Ok(args) => match system.read_map(args.map()) {
             Err(fault) => (Err(Failure::Map(fault)), None),
             Ok((map, said)) => {
-                do_asked(rt, start, &args, &map, text_said(&said), reader, writer)
+                do_asked(system, start, &args, &map, text_said(&said), reader, writer)
             }
         },
     }
@@ -229,7 +242,7 @@ pub fn do_as_asked<S: Start, R: Read, W: Write>(
 /// # Errors
 /// Those of `do_as_asked`.
 pub fn run_as_asked<S: Start, R: Read, W: Write>(
-    rt: &HostRuntime,
+    system: &System<'_>,
     start: S,
     words: &[&str],
     reader: &mut R,
@@ -242,7 +255,7 @@ pub fn run_as_asked<S: Start, R: Read, W: Write>(
         (R.remaining reader.old) (R.remaining reader.new) (W.contents writer.old)
         (W.contents writer.new)) }
 {
-    let (outcome, store) = do_as_asked(rt, start, words, reader, writer);
+    let (outcome, store) = do_as_asked(system, start, words, reader, writer);
     if let Some(store) = store {
         close_file(store);
     }

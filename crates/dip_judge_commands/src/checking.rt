@@ -5,7 +5,6 @@ ghost use Rattle.dip_judge_commands.specs.Asked.{FailsCheck, FailsExplaining};
 
 use crate::failures::Failure;
 use dip_check_runs::{check_papers, explain_paper};
-use dip_judge_runs::RunFault;
 use dip_map::Map;
 use std::alloc::Global;
 use std::io::{Read, Write};
@@ -29,7 +28,7 @@ pub(crate) fn check<R: Read, W: Write>(
     match check_papers(alloc, reader, writer, map) {
         Ok(true) => Ok(()),
         Ok(false) => Err(Failure::Negative),
-        Err(fault) => Err(Failure::Run(fault)),
+        Err(fault) => Err(Failure::Checking(fault)),
     }
 }
 
@@ -52,6 +51,6 @@ pub(crate) fn explain<R: Read, W: Write>(
     match explain_paper(alloc, reader, writer, map, number) {
         Ok(true) => Ok(()),
         Ok(false) => Err(Failure::Negative),
-        Err(fault) => Err(Failure::Run(fault)),
+        Err(fault) => Err(Failure::Checking(fault)),
     }
 }

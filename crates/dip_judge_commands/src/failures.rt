@@ -5,6 +5,7 @@ ghost use Rattle.dip_judge_commands.specs.Failures.{exit_status, status_of, word
 ghost use Rattle.dip_judge_commands.specs.declared.failures.Failure.TheVariants.{Usage};
 ghost use Rattle.std.specs.IoError.{error_kind};
 
+use dip_check_runs::CheckFault;
 use dip_desk_state::KeepFault;
 use dip_judge_runs::{NoMap, RunFault};
 use dip_judge_words::UsageFault;
@@ -36,6 +37,8 @@ pub enum Failure {
     NoGame,
     /// A game's papers weren't all written out.
     Papers(PaperFault),
+    /// The papers weren't checked, or none was explained, to the end.
+    Checking(CheckFault),
     /// The papers aren't right, or there is no explanation; standard output says why.
     Negative,
 }
@@ -60,6 +63,7 @@ impl Failure {
             Failure::NoGame => 4,
             Failure::Papers(PaperFault::Keep(_)) => 4,
             Failure::Papers(PaperFault::Write) => 5,
+            Failure::Checking(_) => 5,
             Failure::Negative => 1,
         }
     }
@@ -93,6 +97,7 @@ impl fmt::Display for Failure {
             Failure::Serving(fault) => write!(f, "dip_judge: {fault}\n"),
             Failure::NoGame => f.write_str("dip_judge: no such game\n"),
             Failure::Papers(fault) => write!(f, "dip_judge: {fault}\n"),
+            Failure::Checking(fault) => write!(f, "dip_judge: {fault}\n"),
             Failure::Negative => Ok(()),
         }
     }

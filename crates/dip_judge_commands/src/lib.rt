@@ -5,12 +5,11 @@
 mod asked;
 mod checking;
 mod failures;
-mod files;
-mod listening;
 mod stored;
+mod system;
 mod version;
 
 pub use asked::{do_as_asked, run_as_asked};
 pub use failures::{Failure, status_of};
-pub use files::Stored;
 pub use stored::{answer_stored, make_desk, report_stored};
+pub use system::{Stored, System};

@@ -1,22 +1,23 @@
 //! What is done over a store: a desk is made, letters are answered, clients served, a game's papers written out.
-ghost use Rattle.std.specs.Prelude.{◌≡◌, IfErr, OnErr, OnOk};
+ghost use Rattle.std.specs.Prelude.{◌≡◌, ◌⊎◌, IfErr, OnErr, OnOk};
 ghost use Rattle.sqlite.specs.Held.{state};
 ghost use Rattle.dip_desk_state.specs.State.{State};
 ghost use Rattle.dip_judge_runs.specs.Fresh.{fresh_desk};
-ghost use Rattle.dip_judge_commands.specs.Stores.{AnswersFrom, IsReportFailure, IsServeFailure, ReadsUpTo, Reports, ServesFrom, StopsFrom, StopsReport, StopsServing, TellsOfStore};
+ghost use Rattle.dip_judge_commands.specs.Lasting.{Lasts, LastsFrom};
+ghost use Rattle.dip_judge_commands.specs.Stores.{AnswersFrom, IsReportFailure, IsServeFailure, ReadsInput, Reports, ServesFrom, StopsFrom, StopsReport, StopsServing, TellsOfStore};
 ghost use Rattle.dip_store.specs.Calls.{does_show, is_honest};
-ghost use Rattle.dip_judge_runs.specs.Runs.{IsReadToEnd};
 ghost use Rattle.dip_store.specs.Causes.{has_faulted};
 ghost use Rattle.dip_store.specs.Opening.{Holds, IsDesk, IsNowOf, IsUnmadeBy, Says, SaysText};
 
 use crate::failures::Failure;
-use crate::listening::{Listening, listen_on};
+use crate::system::{Stored, System};
+use dip_desk_machine::lawful_states_stay_lawful;
 use dip_http::{Routes, serve_all};
 use dip_judge_runs::run_file;
 use dip_letters::digest;
 use dip_map::Map;
 use dip_store::{SqlKeeper, StoreFault};
-use sqlite::{Alter, Connection};
+use sqlite::{Alter, Connection, Start};
 use std::alloc::Global;
 use std::io::{Read, Write};
 
@@ -66,13 +67,14 @@ pub fn answer_stored<S: Alter, R: Read, W: Write>(
         → IfErr result.0 (StopsFrom S.Store map.now (has_faulted S.Store store result.1)
         (IsNowOf S.Store store) s result.1 (R.remaining reader.old) (R.remaining reader.new)
         (W.contents writer.old) (W.contents writer.new)) }
-    ensures read { OnOk result.0 (IsReadToEnd (R.remaining reader.old) (R.remaining reader.new)) }
-    ensures failed { IfErr result.0
-        (ReadsUpTo (R.remaining reader.old) (R.remaining reader.new) (W.contents writer.old)
-        (W.contents writer.new)) }
+    ensures reads { ReadsInput (R.remaining reader.old) (R.remaining reader.new)
+        (W.contents writer.old) (W.contents writer.new) result.0 }
     ensures tells { TellsOfStore S.Store map.now text.now store result.1 result.0 }
+    ensures lasts { LastsFrom S.Store map.now store result.1
+        (Lasts S.Store map.now result.1 result.0) }
     ensures fair { is_honest S.Store result.1 → is_honest S.Store store }
 {
+    lawful_states_stay_lawful(map);
     match SqlKeeper::open(alloc, store, map, text) {
         Err((cause, store)) => (Err(Failure::Store(cause)), store),
         Ok(mut keeper) => match run_file(alloc, reader, writer, &mut keeper, map) {
@@ -103,6 +105,8 @@ pub fn report_stored<S: Alter, W: Write>(
         (W.contents writer.new)) }
     ensures failed { IfErr result.0 IsReportFailure }
     ensures tells { TellsOfStore S.Store map.now text.now store result.1 result.0 }
+    ensures lasts { LastsFrom S.Store map.now store result.1
+        (Lasts S.Store map.now result.1 result.0) }
     ensures fair { is_honest S.Store result.1 → is_honest S.Store store }
 {
     match SqlKeeper::open(alloc, store, map, text) {
@@ -121,7 +125,7 @@ pub fn report_stored<S: Alter, W: Write>(
 /// # Errors
 /// The store's fault; want of memory; the port can't be listened on; else the keeper's fault, `Disk` or `Damaged`.
 pub(crate) fn serve_stored<S: Alter>(
-    rt: &HostRuntime,
+    system: &System<'_>,
     store: Connection<S>,
     map: &Map,
     text: &str,
@@ -136,21 +140,22 @@ pub(crate) fn serve_stored<S: Alter>(
         (IsNowOf S.Store store) count s result.1) }
     ensures failed { IfErr result.0 IsServeFailure }
     ensures tells { TellsOfStore S.Store map.now text.now store result.1 result.0 }
+    ensures lasts { LastsFrom S.Store map.now store result.1
+        (Lasts S.Store map.now result.1 result.0 ⊎ has_faulted S.Store store result.1) }
     ensures fair { is_honest S.Store result.1 → is_honest S.Store store }
 {
-    let alloc = rt.alloc();
+    let alloc = system.alloc();
+    lawful_states_stay_lawful(map);
     match SqlKeeper::open(alloc, store, map, text) {
         Err((fault, store)) => (Err(Failure::Store(fault)), store),
         Ok(mut keeper) => {
             let Ok(routes) = Routes::new(alloc) else {
                 return (Err(Failure::NoMemory), keeper.into_store());
             };
-            match listen_on(rt, port) {
+            match system.listen_on(port) {
                 Err(_) => (Err(Failure::Listen), keeper.into_store()),
                 Ok(listener) => {
-                    // a standard error that takes nothing is no reason not to serve
-                    let _ = rt.eprint(Listening { port });
-                    match serve_all(alloc, rt, &listener, count, &mut keeper, map, &routes) {
+                    match serve_all(alloc, system, &listener, count, &mut keeper, map, &routes) {
                         Ok(()) => (Ok(()), keeper.into_store()),
                         Err(fault) => (Err(Failure::Serving(fault)), keeper.into_store()),
                     }
@@ -158,4 +163,9 @@ pub(crate) fn serve_stored<S: Alter>(
             }
         }
     }
+}
+
+/// Closes a store's file. What is committed stays committed, whatever closing it comes to.
+pub(crate) fn close_file<S: Start>(store: Stored<S>) {
+    let _ = store.close();
 }

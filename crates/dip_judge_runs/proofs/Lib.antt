@@ -1,3 +1,4 @@
 pub mod TurnLemmas
 pub mod StepLemmas
 pub mod FreshLemmas
+pub mod KeptLemmas

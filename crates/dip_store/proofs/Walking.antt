@@ -1,13 +1,16 @@
 -- A walk from look to look.
-use Rattle.std.proofs.Common.{◌≡◌, ◌⊎◌, inl, inr, Ok, Err, Result, refl, sym, ap, arith, ◌∙◌}
-use Rattle.dip_store.specs.Papers.{Walks}
+use Rattle.std.proofs.Common.{◌≡◌, ◌<◌, ◌⊎◌, inl, inr, IfOk, List, None, Ok, OnErr, Option, Err, Result, length, refl, subst, sym, ap, arith, ◌∙◌, ℕ}
+use Rattle.std.proofs.lemmas.Result.{on_err_weaker}
+use Rattle.dip_store.specs.Papers.{AreBegun, BreaksOff, Walks, WritesPapers, faults_told, papers_of}
 use Rattle.dip_store.specs.declared.paper_faults.PaperFault.{PaperFault}
 use Rattle.dip_store.specs.declared.paper_faults.PaperFault.TheVariants.{Write, Keep}
 use Rattle.dip_map.specs.Charts.{Chart}
 use Rattle.dip_desk_keeper.specs.Keeping.{Book, Ends, IsOpen, Looks, Rises}
+use Rattle.dip_desk_state.specs.Bounds.{most_papers}
 use Rattle.dip_desk_state.specs.Faults.{faults_with}
+use Rattle.dip_desk_state.specs.State.{Game, State, game_at}
 use Rattle.dip_desk_state.specs.declared.faults.KeepFault.{KeepFault}
-use Rattle.dip_desk_state.specs.declared.faults.KeepFault.TheVariants.{Disk}
+use Rattle.dip_desk_state.specs.declared.faults.KeepFault.TheVariants.{Damaged, Disk}
 
 -- a walk that went well so far
 abbrev pub went : (X : Type 0) → X → Result X PaperFault
@@ -115,3 +118,79 @@ module _ {K : Type 0} (m : Chart) (b : Book K) where
   -- a writer's fault is none of the keeper
   pub breaks_off : (X Z : Type 0) (x : X) (a c : K) → Walks m b a c (went X x) → Walks m b a c (stopped Z Write)
   breaks_off X Z x a c w = record { count = w.count; told = w.told; fair = w.fair; shown = w.shown; sound = w.sound; same = w.same; firm = w.firm; stays_open = w.stays_open; shuts = w.shuts; failed = λ s h o bad. absurd (cc); left = w.left; again = w.again }
+
+  -- nor are more papers than a game may have
+  pub damages : (X : Type 0) (x : X) (a c : K) → Walks m b a c (went X x) → Walks m b a c (stopped X (Keep Damaged))
+  damages X x a c w = record {
+    count = w.count;
+    told = w.told;
+    fair = w.fair;
+    shown = w.shown;
+    sound = w.sound;
+    same = w.same;
+    firm = λ s h. tt;
+    stays_open = λ s h o. tt;
+    shuts = w.shuts;
+    failed = λ s h o bad. absurd (cc);
+    left = w.left;
+    again = w.again;
+  }
+
+  -- papers that are written, after such a walk
+  module _ (X : Type 0) (game : List ℕ) (Out : X → Option Game → Type 0) (before after : Option (List ℕ)) (a d : K) where
+    -- all of them
+    pub whole : (x : X) → Walks m b a d (went X x) → (IsOpen m b a → IsOpen m b d → Out x (game_at game (b.content m a)))
+        → WritesPapers m b game a d Out before after (went X x)
+    whole x w out = record {
+      goes = λ it h. let on = goes_open X x a d w it h in (on, w.same it.sound on.shows, out it on);
+      ends = λ it h. tt;
+      damaged = λ it h bad. absurd (cc);
+      failed = λ it h bad. absurd (cc);
+      count = w.count;
+      fair = w.fair;
+    }
+
+    -- or up to a fault
+    pub broken : (f : PaperFault) → Walks m b a d (stopped X f) → (IsOpen m b a → b.honest d → AreBegun (game_at game (b.content m a)) before after)
+        → (IsOpen m b a → b.honest d → f ≡ Keep Damaged → most_papers < length (papers_of (game_at game (b.content m a))))
+        → WritesPapers m b game a d Out before after (stopped X f)
+    broken f w begun many = record {
+      goes = λ it h. tt;
+      ends = λ it h. record { begun = begun it h; ends = ends_fault X f a d w it h };
+      damaged = λ it h bad. many it h (cc);
+      failed = λ it h bad. w.failed it.sound h it.shows bad;
+      count = w.count;
+      fair = w.fair;
+    }
+
+    -- they are written from the keeper that a look left as it was
+    pub after_look : (Y : Type 0) (y : Y) (c : K) → Walks m b a c (went Y y) → (r : Result X PaperFault) → WritesPapers m b game c d Out before after r
+        → WritesPapers m b game a d Out before after r
+    after_look Y y c w r it = record {
+      goes = λ was_open h. subst (λ (s : State). IfOk r (λ x. IsOpen m b d × (b.content m d ≡ s) × Out x (game_at game s))) (same was_open h) (it.goes (on was_open h) h);
+      ends = λ was_open h. on_err_weaker r (from (same was_open h)) (it.ends (on was_open h) h);
+      damaged = λ was_open h bad. subst (λ (s : State). most_papers < length (papers_of (game_at game s))) (same was_open h) (it.damaged (on was_open h) h bad);
+      failed = λ was_open h bad. omega (arith, it.failed (on was_open h) h bad, w.told);
+      count = it.count ∙ ap (faults_told r) w.count;
+      fair = λ h. w.fair (it.fair h);
+    }
+      where
+        on : IsOpen m b a → b.honest d → IsOpen m b c
+        on was_open h = goes_open Y y a c w was_open (it.fair h)
+
+        same : (was_open : IsOpen m b a) (h : b.honest d) → b.content m c ≡ b.content m a
+        same was_open h = w.same was_open.sound (on was_open h).shows
+
+        from : b.content m c ≡ b.content m a → BreaksOff m b game c d before after → BreaksOff m b game a d before after
+        from is at = record {
+          begun = subst (λ (s : State). AreBegun (game_at game s) before after) is at.begun;
+          ends = record {
+            left = λ t may. subst (λ (s : State). (t ≡ s) ⊎ ⊥) is (at.ends.left t may);
+            again = at.ends.again;
+            shown = λ o. subst (λ (s : State). IsOpen m b d × (b.content m d ≡ s)) is (at.ends.shown o);
+            goes = elim at.ends.goes [
+              | inl goes ↦ inl (goes.0, goes.1 ∙ is)
+              | inr rises ↦ inr (omega (arith, rises, w.told))
+            ];
+          };
+        }

@@ -1,14 +1,15 @@
 -- Papers as they are written out.
-use Rattle.std.specs.Prelude.{◌≡◌, ◌≤◌, ◌⊎◌, ℕ, List, [], Option, None, Some, IsErrOf, Result, Ok, Err, codes, length, take}
+use Rattle.std.specs.Prelude.{◌≡◌, ◌<◌, ◌≤◌, ◌⊎◌, ℕ, List, [], Option, None, Some, IfOk, IsErrOf, OnErr, Result, Ok, Err, codes, length, take}
 use Rattle.std.specs.List.{flat_map}
 use Rattle.std.specs.Io.KnownBytes.{Appends}
 use Rattle.dip_store.specs.declared.paper_faults.PaperFault.{PaperFault}
 use Rattle.dip_store.specs.declared.paper_faults.PaperFault.TheVariants.{Write, Keep}
 use Rattle.dip_map.specs.Charts.{Chart}
-use Rattle.dip_desk_keeper.specs.Keeping.{Book, Ends, Rises}
+use Rattle.dip_desk_keeper.specs.Keeping.{Book, Ends, IsOpen, Rises}
+use Rattle.dip_desk_state.specs.Bounds.{most_papers}
 use Rattle.dip_desk_state.specs.Faults.{faults_with, keep_fault_name}
 use Rattle.dip_desk_state.specs.State.{Game, State, game_at}
-use Rattle.dip_desk_state.specs.declared.faults.KeepFault.TheVariants.{Disk}
+use Rattle.dip_desk_state.specs.declared.faults.KeepFault.TheVariants.{Damaged, Disk}
 
 -- a fault's name, as a program tells it
 abbrev pub paper_fault_name : PaperFault → List ℕ
@@ -28,6 +29,10 @@ papers_text g = flat_map (λ p. p) (papers_of g)
 abbrev pub AreOut : Option ℕ → Option Game → Option (List ℕ) → Option (List ℕ) → Type 0
 AreOut told None before after = (told ≡ None) × (after ≡ before)
 AreOut told (Some g) before after = (told ≡ Some (length g.papers)) × Appends before after (papers_text (Some g))
+
+-- all papers of the game, or of none, were written, and so many they are
+abbrev pub AreAll : ℕ → Option Game → Option (List ℕ) → Option (List ℕ) → Type 0
+AreAll count g before after = (count ≡ length (papers_of g)) × Appends before after (papers_text g)
 
 -- a beginning of them was written
 abbrev pub AreBegun : Option Game → Option (List ℕ) → Option (List ℕ) → Type 0
@@ -67,3 +72,15 @@ pub record Walks {K X : Type 0} (m : Chart) (b : Book K) (old new : K) (result :
 pub record BreaksOff {K : Type 0} (m : Chart) (b : Book K) (game : List ℕ) (old new : K) (before after : Option (List ℕ)) : Type 0 where
   pub begun : AreBegun (game_at game (b.content m old)) before after
   pub ends : Ends m b old new (b.content m old) (λ t. ⊥)
+
+-- how a game's papers are written: from a keeper that was open, over an honest disk, all of them, and it is open and has what it had; or
+-- up to a fault. Damaged is told only of more papers than a game may have, and the disk only where the store told of a fault of it
+pub record WritesPapers {K X : Type 0} (m : Chart) (b : Book K) (game : List ℕ) (old new : K) (Out : X → Option Game → Type 0)
+    (before after : Option (List ℕ)) (result : Result X PaperFault) : Type 0 where
+  pub goes : IsOpen m b old → b.honest new → IfOk result (λ x. IsOpen m b new × (b.content m new ≡ b.content m old)
+      × Out x (game_at game (b.content m old)))
+  pub ends : IsOpen m b old → b.honest new → OnErr result (BreaksOff m b game old new before after)
+  pub damaged : IsOpen m b old → b.honest new → IsErrOf result (Keep Damaged) → most_papers < length (papers_of (game_at game (b.content m old)))
+  pub failed : IsOpen m b old → b.honest new → IsErrOf result (Keep Disk) → Rises (b.told old) (b.told new)
+  pub count : b.faults new ≡ faults_told result (b.faults old)
+  pub fair : b.honest new → b.honest old

@@ -5,7 +5,7 @@ use Rattle.dip_store.specs.Causes.{has_faulted}
 use Rattle.dip_store.specs.Opening.{IsNowOf}
 use Rattle.dip_judge_commands.specs.Files.{HasFaults, IsFoundIn}
 use Rattle.dip_judge_commands.specs.Stores.{AnswersFrom, StopsFrom}
-use Rattle.dip_judge_commands.proofs.FileLemmas.{err_held, found_there, ok_held, tells_of_file}
+use Rattle.dip_judge_commands.proofs.FileLemmas.{err_held, found_there, lasts_in, ok_held, tells_of_file}
 use Rattle.dip_judge_commands.proofs.StoredLemmas.{some_fault, stops_as_of}
 use Rattle.dip_judge_commands.proofs.asked.answer_file.Goals as goal
 
@@ -34,3 +34,8 @@ pub returns-in-Ok-clause-tells : goal.returns-in-Ok-clause-tells
 returns-in-Ok-clause-tells g c =
     let call = c.answer_stored-answered in
     tells_of_file (image_at g.S.Start) c.args.map.now c.in-Ok.store c.in-Ok.ensures.opened c.in-Ok.ensures.found c.args.text.now call.result.1 call.ensures.fair call.result.0 call.ensures.tells
+
+pub returns-in-Ok-clause-lasts : goal.returns-in-Ok-clause-lasts
+returns-in-Ok-clause-lasts g c =
+    let call = c.answer_stored-answered in
+    lasts_in (image_at g.S.Start) c.args.map.now c.in-Ok.store c.in-Ok.ensures.opened c.in-Ok.ensures.found call.result.1 call.ensures.fair _ call.ensures.lasts

@@ -18,3 +18,21 @@ returns-in-Ok-read_map-clause-tells g c =
           (subst (λ (text : List ℕ). IsMapOf STANDARD.now (option_map (λ p. p.now) c.map.result) text c.in-Ok-read_map.map) (sym c.text_said.ensures) c.in-Ok-read_map.ensures.map),
       tells,
     ))
+
+pub returns-in-Ok-read_map-clause-lasts : goal.returns-in-Ok-read_map-clause-lasts
+returns-in-Ok-read_map-clause-lasts g c =
+    IfSome_then c.do_asked.result.1 c.do_asked.ensures.lasts
+    (λ store lasts. (
+      c.in-Ok.args,
+      c.in-Ok-read_map.map,
+      (
+        c.in-Ok.ensures.given,
+        c.in-Ok.ensures.checks,
+        (
+          c.text_said.result.now,
+          subst (λ (path : Option (List ℕ)). IsMapOf STANDARD.now path c.text_said.result.now c.in-Ok-read_map.map) c.map.ensures
+              (subst (λ (text : List ℕ). IsMapOf STANDARD.now (option_map (λ p. p.now) c.map.result) text c.in-Ok-read_map.map) (sym c.text_said.ensures) c.in-Ok-read_map.ensures.map),
+        ),
+      ),
+      lasts,
+    ))

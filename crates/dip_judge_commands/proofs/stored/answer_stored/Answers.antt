@@ -1,4 +1,7 @@
-use Rattle.std.specs.Prelude.{refl}
+use Rattle.std.proofs.Common.{Err, ap, refl, subst, sym}
+use Rattle.dip_desk_machine.specs.Lawful.{IsLawful}
+use Rattle.dip_judge_runs.specs.declared.run.RunFault.{RunFault}
+use Rattle.dip_judge_commands.proofs.LastingLemmas.{answers_last, damage_run, shut_lawful, stops_last}
 use Rattle.dip_judge_commands.proofs.StoredLemmas.{answers_from, is_open, shut_by, stops_from}
 use Rattle.dip_store.specs.Opening.{IsNowOf}
 use Rattle.dip_judge_commands.proofs.stored.answer_stored.Goals as goal
@@ -35,3 +38,39 @@ returns-in-Err-run_file-clause-tells g c =
 
 pub returns-in-Err-clause-tells : goal.returns-in-Err-clause-tells
 returns-in-Err-clause-tells g c = shut_by g.S.Store c.args.map.now c.args.text.now c.args.store _ _ c.in-Err.ensures
+
+pub returns-in-Ok-run_file-clause-lasts : goal.returns-in-Ok-run_file-clause-lasts
+returns-in-Ok-run_file-clause-lasts g c =
+    let m = c.args.map.now in
+    let k = c.in-Ok.keeper in
+    rw c.into_store.ensures
+    (λ clean s desk law.
+    let opened = c.in-Ok.ensures.opened (c.run_file.ensures.fair clean) s desk.says in
+    let run = c.in-Ok-run_file.ensures.answers (is_open g.S.Store m s k opened) clean in
+    record {
+      never = tt;
+      left = answers_last g.S.Store m c.lawful_states_stay_lawful.ensures.stays s _ law _ _ _ _
+          (answers_from g.S.Store m s k c.run_file.new.keeper _ _ _ _ opened run.1 run.0);
+    })
+
+pub returns-in-Err-run_file-clause-lasts : goal.returns-in-Err-run_file-clause-lasts
+returns-in-Err-run_file-clause-lasts g c =
+    let m = c.args.map.now in
+    let k = c.in-Ok.keeper in
+    let fault = c.in-Err-run_file.fault in
+    rw c.into_store-in-Err-run_file.ensures
+    (λ clean s desk law.
+    let opened = c.in-Ok.ensures.opened (c.run_file.ensures.fair clean) s desk.says in
+    let still = is_open g.S.Store m s k opened in
+    record {
+      never = λ bad. c.in-Err-run_file.ensures.never still clean (subst (IsLawful m) (sym opened.says) law) (ap (λ (f : RunFault). Err f) (damage_run fault bad));
+      left = stops_last g.S.Store m c.lawful_states_stay_lawful.ensures.stays s _ law _ (IsNowOf g.S.Store c.args.store) _ _ _ _ fault
+          (stops_from g.S.Store m s k c.run_file.new.keeper _ _ _ _ opened (IsNowOf g.S.Store c.args.store) c.args.store c.in-Ok.ensures.counted fault
+          (c.in-Err-run_file.ensures.ends still clean));
+    })
+
+pub returns-in-Err-clause-lasts : goal.returns-in-Err-clause-lasts
+returns-in-Err-clause-lasts g c = λ honest s desk law. record {
+  never = λ bad. bad;
+  left = shut_lawful g.S.Store c.args.map.now _ s c.args.store _ law desk.says (c.in-Err.ensures.ends honest s desk);
+}

@@ -1,3 +1,6 @@
+use Rattle.std.proofs.Common.{inl, subst, sym}
+use Rattle.dip_desk_machine.specs.Lawful.{IsLawful}
+use Rattle.dip_judge_commands.proofs.LastingLemmas.{both_last, holds_lawful, served_last, serving_last, shut_lawful, undamaged}
 use Rattle.dip_judge_commands.proofs.StoredLemmas.{ends_still, holds, is_open, serves_from, serves_up_to, shut_by}
 use Rattle.dip_judge_commands.proofs.stored.serve_stored.Goals as goal
 
@@ -51,3 +54,56 @@ returns-in_default-clause-tells g c = rw c.into_store.ensures c.in-Ok.ensures.ma
 
 pub returns-in-Err-clause-tells : goal.returns-in-Err-clause-tells
 returns-in-Err-clause-tells g c = shut_by g.S.Store c.args.map.now c.args.text.now c.args.store _ _ c.in-Err.ensures
+
+pub returns-in-Ok-serve_all-clause-lasts : goal.returns-in-Ok-serve_all-clause-lasts
+returns-in-Ok-serve_all-clause-lasts g c =
+    let m = c.args.map.now in
+    let k = c.in-Ok.keeper in
+    rw c.into_store-in-Ok-serve_all.ensures
+    (λ clean s desk law.
+    let opened = c.in-Ok.ensures.opened (c.serve_all.ensures.fair clean) s desk.says in
+    both_last g.S.Store m _ _ _ (inl tt)
+    (served_last g.S.Store m c.lawful_states_stay_lawful.ensures.stays s _ law _ c.args.count
+    (serves_from g.S.Store m c.args.store c.args.count s k c.serve_all.new.keeper opened c.in-Ok.ensures.counted
+    (c.in-Ok-serve_all.ensures.goes (is_open g.S.Store m s k opened) clean))))
+
+pub returns-clause-lasts : goal.returns-clause-lasts
+returns-clause-lasts g c =
+    let m = c.args.map.now in
+    let k = c.in-Ok.keeper in
+    rw c.into_store-in-Err-serve_all.ensures
+    (λ clean s desk law.
+    let opened = c.in-Ok.ensures.opened (c.serve_all.ensures.fair clean) s desk.says in
+    let still = is_open g.S.Store m s k opened in
+    both_last g.S.Store m _ _ _
+    (undamaged g.S.Store m c.args.store c.args.count k c.serve_all.new.keeper _ c.in-Ok.ensures.counted c.in-Err-serve_all.ensures still clean
+    (subst (IsLawful m) (sym opened.says) law))
+    (serving_last g.S.Store m c.lawful_states_stay_lawful.ensures.stays s _ law _ c.args.count
+    (serves_up_to g.S.Store m c.args.store c.args.count s k c.serve_all.new.keeper opened c.in-Ok.ensures.counted
+    (c.serve_all.ensures.ends still clean))))
+
+pub returns-in-Err-listen_on-clause-lasts : goal.returns-in-Err-listen_on-clause-lasts
+returns-in-Err-listen_on-clause-lasts g c =
+    let m = c.args.map.now in
+    let k = c.in-Ok.keeper in
+    rw c.into_store-in-Err-listen_on.ensures
+    (λ clean s desk law. inl (record {
+      never = λ bad. bad;
+      left = holds_lawful g.S.Store m s _ law (holds g.S.Store m s k (c.in-Ok.ensures.opened clean s desk.says));
+    }))
+
+pub returns-in_default-clause-lasts : goal.returns-in_default-clause-lasts
+returns-in_default-clause-lasts g c =
+    let m = c.args.map.now in
+    let k = c.in-Ok.keeper in
+    rw c.into_store.ensures
+    (λ clean s desk law. inl (record {
+      never = λ bad. bad;
+      left = holds_lawful g.S.Store m s _ law (holds g.S.Store m s k (c.in-Ok.ensures.opened clean s desk.says));
+    }))
+
+pub returns-in-Err-clause-lasts : goal.returns-in-Err-clause-lasts
+returns-in-Err-clause-lasts g c = λ honest s desk law. inl (record {
+  never = λ bad. bad;
+  left = shut_lawful g.S.Store c.args.map.now _ s c.args.store _ law desk.says (c.in-Err.ensures.ends honest s desk);
+})

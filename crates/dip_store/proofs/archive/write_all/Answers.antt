@@ -1,49 +1,70 @@
-use Rattle.std.proofs.Common.{rules, ◌≡◌, ◌+◌, ℕ, None, Some, suc, string_bytes, subst, arith}
+use Rattle.std.proofs.Common.{rules, ◌≡◌, ◌+◌, ℕ, Err, None, Some, ap, suc, string_bytes, subst, arith, ◌∙◌}
 use Rattle.std.proofs.lemmas.Result.{err_from_is_err_and}
+use Rattle.dip_desk_state.specs.State.{State, paper_at}
 use Rattle.dip_store.proofs.Numbers.{found, no_more}
 use Rattle.dip_store.proofs.Parts.{all, begun, begun_more, more}
-use Rattle.dip_store.proofs.Walking.{breaks_off, ends_by, ends_fault, ends_still, goes_on, goes_open}
-use Rattle.dip_desk_state.specs.State.{State, paper_at}
+use Rattle.dip_store.proofs.Walking.{breaks_off, broken, damages, ends_by, goes_on, goes_open, whole}
+use Rattle.dip_store.specs.declared.paper_faults.PaperFault.{PaperFault}
 use Rattle.dip_store.proofs.archive.write_all.Goals as goal
 
-pub returns-in_err-paper-clause-begun : goal.returns-in_err-paper-clause-begun
-returns-in_err-paper-clause-begun g c = λ sound shows.
-    let so_far = c.papers.invariant.so_far sound (c.paper.ensures.keeps.shown shows) in
+pub returns-in_err-paper : goal.returns-in_err-paper
+returns-in_err-paper g c =
+    let m = c.args.map.now in
+    let b = g.K.Keeper.book in
+    let walks = c.papers.invariant.walks in
     let p = err_from_is_err_and c.from_residual.result c.from_residual.ensures.1 in
-    rw p.1 (begun _ c.papers.count _ _ so_far.1)
+    rw (p.1 ∙ ap (λ (f : PaperFault). Err f) p.2)
+    (broken m b ℕ c.args.game.now _ _ _ c.args.keeper.now c.paper.new.self _
+    (ends_by m b ℕ _ c.papers.count c.args.keeper.now c.papers.keeper c.paper.new.self walks ℕ _ _ _ c.in_err-paper.ensures)
+    (λ it honest.
+    let on = goes_open m b ℕ c.papers.count c.args.keeper.now c.papers.keeper walks it (c.paper.ensures.keeps.fair honest) in
+    begun _ c.papers.count _ _ (c.papers.invariant.so_far it.sound on.shows).1)
+    (λ it honest is.
+    let on = goes_open m b ℕ c.papers.count c.args.keeper.now c.papers.keeper walks it (c.paper.ensures.keeps.fair honest) in
+    absurd (c.in_err-paper.ensures.damaged on.sound honest on.shows (cc))))
 
-pub returns-in-None-clause-all : goal.returns-in-None-clause-all
-returns-in-None-clause-all g c = λ sound shows.
+pub returns-in-None : goal.returns-in-None
+returns-in-None g c =
     let m = c.args.map.now in
+    let b = g.K.Keeper.book in
     let game = c.args.game.now in
     let n = c.papers.count in
-    let before = c.paper.ensures.keeps.shown shows in
     let walks = c.papers.invariant.walks in
-    let so_far = c.papers.invariant.so_far sound before in
+    whole m b ℕ game _ _ _ c.args.keeper.now c.paper.new.self c.from.result
+    (goes_on m b ℕ _ n c.args.keeper.now c.papers.keeper c.paper.new.self walks ℕ c.from.result _ _ _ c.in_ok-paper.ensures)
+    (λ it on.
+    let before = c.paper.ensures.keeps.shown on.shows in
+    let so_far = c.papers.invariant.so_far it.sound before in
     let one : n + 1 ≡ suc n = omega arith in
-    let told = rw c.in-None.is at (c.in_ok-paper.ensures.value (walks.sound sound before) shows) in
-    let none : None ≡ paper_at game (suc n) (g.K.Keeper.book.content m c.args.keeper.now) =
-    subst (λ (k : ℕ). None ≡ paper_at game k (g.K.Keeper.book.content m c.args.keeper.now)) one (subst (λ (s : State). None ≡ paper_at game (n + 1) s) (walks.same sound before) told) in
-    let enough = no_more game (g.K.Keeper.book.content m c.args.keeper.now) n none in
-    (rw c.from.ensures (omega (arith, enough, so_far.0)), all _ n _ _ enough so_far.1)
+    let told = rw c.in-None.is at (c.in_ok-paper.ensures.value (walks.sound it.sound before) on.shows) in
+    let none : None ≡ paper_at game (suc n) (b.content m c.args.keeper.now) =
+    subst (λ (k : ℕ). None ≡ paper_at game k (b.content m c.args.keeper.now)) one (subst (λ (s : State). None ≡ paper_at game (n + 1) s) (walks.same it.sound before) told) in
+    let enough = no_more game (b.content m c.args.keeper.now) n none in
+    (rw c.from.ensures (omega (arith, enough, so_far.0)), all _ n _ _ enough so_far.1))
 
-pub returns-in_err-write_paper-in-Some-clause-begun : goal.returns-in_err-write_paper-in-Some-clause-begun
-returns-in_err-write_paper-in-Some-clause-begun g c = λ sound shows.
+pub returns-in_err-write_paper-in-Some : goal.returns-in_err-write_paper-in-Some
+returns-in_err-write_paper-in-Some g c =
     let m = c.args.map.now in
+    let b = g.K.Keeper.book in
     let game = c.args.game.now in
     let n = c.papers.count in
-    let before = c.paper.ensures.keeps.shown shows in
-    let walks = c.papers.invariant.walks in
-    let so_far = c.papers.invariant.so_far sound before in
-    let one : n + 1 ≡ suc n = omega arith in
-    let told = rw c.in-Some.is at (c.in_ok-paper.ensures.value (walks.sound sound before) shows) in
-    let some : Some (string_bytes c.in-Some.text) ≡ paper_at game (suc n) (g.K.Keeper.book.content m c.args.keeper.now) =
-    subst (λ (k : ℕ). Some (string_bytes c.in-Some.text) ≡ paper_at game k (g.K.Keeper.book.content m c.args.keeper.now)) one
-    (subst (λ (s : State). Some (string_bytes c.in-Some.text) ≡ paper_at game (n + 1) s) (walks.same sound before) told) in
-    let it = found game (g.K.Keeper.book.content m c.args.keeper.now) n (string_bytes c.in-Some.text) some in
+    let walks = goes_on m b ℕ _ n c.args.keeper.now c.papers.keeper c.paper.new.self c.papers.invariant.walks ℕ 0 _ _ _ c.in_ok-paper.ensures in
     let p = err_from_is_err_and c.from_residual-in_err-write_paper-in-Some.result c.from_residual-in_err-write_paper-in-Some.ensures.1 in
+    rw (p.1 ∙ ap (λ (f : PaperFault). Err f) (p.2 ∙ c.in_err-write_paper-in-Some.ensures.fault))
+    (broken m b ℕ game _ _ _ c.args.keeper.now c.paper.new.self _ (breaks_off m b ℕ ℕ 0 c.args.keeper.now c.paper.new.self walks)
+    (λ it honest.
+    let shows = (goes_open m b ℕ 0 c.args.keeper.now c.paper.new.self walks it honest).shows in
+    let before = c.paper.ensures.keeps.shown shows in
+    let so_far = c.papers.invariant.so_far it.sound before in
+    let one : n + 1 ≡ suc n = omega arith in
+    let told = rw c.in-Some.is at (c.in_ok-paper.ensures.value (c.papers.invariant.walks.sound it.sound before) shows) in
+    let some : Some (string_bytes c.in-Some.text) ≡ paper_at game (suc n) (b.content m c.args.keeper.now) =
+    subst (λ (k : ℕ). Some (string_bytes c.in-Some.text) ≡ paper_at game k (b.content m c.args.keeper.now)) one
+    (subst (λ (s : State). Some (string_bytes c.in-Some.text) ≡ paper_at game (n + 1) s) (c.papers.invariant.walks.same it.sound before) told) in
+    let at = found game (b.content m c.args.keeper.now) n (string_bytes c.in-Some.text) some in
     let part = rw c.as_str.ensures.value at c.in_err-write_paper-in-Some.ensures.err in
-    rw p.1 (begun_more _ n _ part.0 _ _ _ it.0 it.1 so_far.1 part.1)
+    begun_more _ n _ part.0 _ _ _ at.0 at.1 so_far.1 part.1)
+    (λ it honest is. absurd (cc)))
 
 pub papers-preserved : goal.papers-preserved
 papers-preserved g c = record {
@@ -65,41 +86,16 @@ papers-preserved g c = record {
       (omega (arith, it.0), more _ n _ _ _ _ it.0 it.1 so_far.1 part);
 }
 
-pub returns-clause-begun : goal.returns-clause-begun
-returns-clause-begun g c = λ sound shows. begun _ c.papers.count _ _ (c.papers.invariant.so_far sound shows).1
-
-pub returns-in_err-paper-clause-ends : goal.returns-in_err-paper-clause-ends
-returns-in_err-paper-clause-ends g c = λ it honest.
+pub returns : goal.returns
+returns g c =
     let m = c.args.map.now in
     let b = g.K.Keeper.book in
     let walks = c.papers.invariant.walks in
-    let before = goes_open m b ℕ c.papers.count c.args.keeper.now c.papers.keeper walks it (c.paper.ensures.keeps.fair honest) in
-    let so_far = c.papers.invariant.so_far it.sound before.shows in
-    let p = err_from_is_err_and c.from_residual.result c.from_residual.ensures.1 in
-    rw p.1 record {
-      begun = begun _ c.papers.count _ _ so_far.1;
-      ends = ends_fault m b ℕ _ c.args.keeper.now c.paper.new.self (ends_by m b ℕ _ c.papers.count c.args.keeper.now c.papers.keeper c.paper.new.self walks ℕ _ _ _ c.in_err-paper.ensures) it honest;
-    }
-
-pub returns-in_err-write_paper-in-Some-clause-ends : goal.returns-in_err-write_paper-in-Some-clause-ends
-returns-in_err-write_paper-in-Some-clause-ends g c = λ it honest.
-    let m = c.args.map.now in
-    let b = g.K.Keeper.book in
-    let walks = goes_on m b ℕ _ c.papers.count c.args.keeper.now c.papers.keeper c.paper.new.self c.papers.invariant.walks ℕ 0 _ _ _ c.in_ok-paper.ensures in
-    let after = goes_open m b ℕ 0 c.args.keeper.now c.paper.new.self walks it honest in
-    let p = err_from_is_err_and c.from_residual-in_err-write_paper-in-Some.result c.from_residual-in_err-write_paper-in-Some.ensures.1 in
-    let part = returns-in_err-write_paper-in-Some-clause-begun g c it.sound after.shows in
-    rw p.1 record {
-      begun = rw p.1 at part;
-      ends = ends_fault m b ℕ _ c.args.keeper.now c.paper.new.self (breaks_off m b ℕ ℕ 0 c.args.keeper.now c.paper.new.self walks) it honest;
-    }
-
-pub returns-clause-ends : goal.returns-clause-ends
-returns-clause-ends g c = λ it honest.
-    let m = c.args.map.now in
-    let b = g.K.Keeper.book in
-    let on = goes_open m b ℕ c.papers.count c.args.keeper.now c.papers.keeper c.papers.invariant.walks it honest in
-    record {
-      begun = begun _ c.papers.count _ _ (c.papers.invariant.so_far it.sound on.shows).1;
-      ends = ends_still m b ℕ c.papers.count c.args.keeper.now c.papers.keeper c.papers.invariant.walks it honest;
-    }
+    broken m b ℕ c.args.game.now _ _ _ c.args.keeper.now c.papers.keeper _ (damages m b ℕ c.papers.count c.args.keeper.now c.papers.keeper walks)
+    (λ it honest.
+    let on = goes_open m b ℕ c.papers.count c.args.keeper.now c.papers.keeper walks it honest in
+    begun _ c.papers.count _ _ (c.papers.invariant.so_far it.sound on.shows).1)
+    (λ it honest is.
+    let on = goes_open m b ℕ c.papers.count c.args.keeper.now c.papers.keeper walks it honest in
+    let so_far = (c.papers.invariant.so_far it.sound on.shows).0 in
+    omega (arith, so_far, c.papers-test))

@@ -3,7 +3,7 @@ use Rattle.std.proofs.Common.{◌≡◌, ◌&&◌, ℕ, List, Option, Some, None
 use Rattle.std.specs.Option.{option_or}
 use Rattle.std.specs.Str.{bytes_eq}
 use Rattle.dip_letters.specs.Reading.{◌<|>◌, plain_at}
-use Rattle.dip_letters.specs.Words.{is_empty}
+use Rattle.dip_letters_words.specs.Words.{is_empty}
 
 either_maps : {A B : Type 0} (f : A → B) (a b : Option A) → option_map f (option_or a b) ≡ (option_map f a <|> option_map f b)
 either_maps f None b = refl

@@ -2,12 +2,12 @@
 use Rattle.std.proofs.Common.{◌≡◌, ◌<◌, ◌≤◌, ◌-◌, ℕ, zero, suc, List, [], ◌∷◌, ◌++◌, Option, Some, None, Bool, true, false, codes, length, refl, sym, ap, subst, ◌∙◌, append-nil, arith}
 use Rattle.std.specs.List.{AllByRecursion}
 use Rattle.dip_letters.specs.Letters.{FitsNames, words_of}
-use Rattle.dip_letters.specs.Lines.{split_words, word_at}
+use Rattle.dip_letters_words.specs.Lines.{split_words, word_at}
 use Rattle.dip_letters.specs.Reading.{names_at, word_fits, words_fit}
-use Rattle.dip_letters.specs.Words.{is_name}
+use Rattle.dip_letters_words.specs.Words.{is_name}
 use Rattle.dip_letters.proofs.FieldLemmas.{guard_some}
-use Rattle.dip_letters.proofs.LineLemmas.{cut_again, cut_none, cut_takes, one_word, words_again}
-use Rattle.dip_letters.proofs.WordLemmas.{IsPrintable, and_first, and_second, name_is_word, name_prints, printable_append}
+use Rattle.dip_letters_words.proofs.LineLemmas.{cut_again, cut_none, cut_takes, one_word, words_again}
+use Rattle.dip_letters_words.proofs.WordLemmas.{IsPrintable, and_first, and_second, name_is_word, name_prints, printable_append}
 
 abbrev pub IsName : List ℕ → Type 0
 IsName n = is_name n ≡ true

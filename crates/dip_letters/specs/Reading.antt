@@ -1,22 +1,17 @@
 -- How a text is read as a letter, on lists of bytes. The grammar is in `Letters`.
-use Rattle.std.specs.Prelude.{◌==◌, ◌&&◌, ◌||◌, not, ℕ, zero, suc, Bool, true, false, List, [], ◌∷◌, ◌++◌, Option, Some, None, codes, option_map, if◌then◌else◌}
+use Rattle.std.specs.Prelude.{◌&&◌, ◌||◌, not, ℕ, zero, suc, Bool, true, false, List, [], ◌∷◌, ◌++◌, Option, Some, None, codes, option_map, if◌then◌else◌}
 use Rattle.std.specs.Option.{option_or}
 use Rattle.std.specs.Str.{bytes_eq}
 use Rattle.std.specs.Str.Parse.{digits_value}
-use Rattle.dip_letters.specs.Lines.{line_at, split_lines, split_words, word_at}
-use Rattle.dip_letters.specs.Words.{is_due, is_empty, is_game, is_name, is_number, is_order_line, is_secret, is_small_number, is_text}
+pub use Rattle.dip_letters_words.specs.Lines.{after_name}
+use Rattle.dip_letters_words.specs.Lines.{line_at, split_lines, split_words, word_at}
+use Rattle.dip_letters_words.specs.Words.{is_due, is_empty, is_game, is_name, is_number, is_order_line, is_secret, is_small_number, is_text}
 use Rattle.dip_letters.specs.Notes.{MasterRequest, Note, NoticeRequest, PlayerRequest, Request, SeatNote}
 use Rattle.dip_letters.specs.Notes.MasterRequest.{Create, Notify, Replace, Tick}
 use Rattle.dip_letters.specs.Notes.NoticeRequest.{Announce, Close, Pause, Period, Resume}
 use Rattle.dip_letters.specs.Notes.PlayerRequest.{Inbox, Orders, Press, Show, Vote, VoteFor, Withdraw}
 use Rattle.dip_letters.specs.Notes.Request.{Master, Player}
 use Rattle.dip_names.specs.Options.{◌>>=◌}
-
--- what follows a name at the front
-abbrev pub after_name : List ℕ → List ℕ → Option (List ℕ)
-after_name [] text = Some text
-after_name (n ∷ ns) [] = None
-after_name (n ∷ ns) (b ∷ bs) = if b == n then after_name ns bs else None
 
 -- the value after a name in the first line, and what follows that line
 abbrev pub field_at : List ℕ → (List ℕ → Bool) → List ℕ → Option (List ℕ × List ℕ)

@@ -6,10 +6,9 @@ ghost use Rattle.dip_letters.specs.Views.{master_request, notice_request};
 
 use crate::bodies::{seat_words_of, seats_of};
 use crate::commands::{answer_of, plain_of};
-use crate::lines::{after, word_of};
 use crate::press::texts_of;
-use crate::words::{is_due, is_small_number, value_of};
 use crate::{MasterCommand, Notice, Opening};
+use dip_letters_words::{after, is_due, is_small_number, value_of, word_of};
 
 /// The master's command, by its line and the body after it.
 #[tactic(auto, unfolding(crate::specs::Reading::master_at))]
@@ -45,7 +44,7 @@ fn opening_of<'a>(line: &'a str, body: &'a str) -> Option<MasterCommand<'a>>
 }
 
 /// The tick before the first space, and what is after that space.
-#[tactic(auto, unfolding(crate::specs::Reading::due_at), using(crate::proofs::NumberLemmas::due_facts))]
+#[tactic(auto, unfolding(crate::specs::Reading::due_at), using(dip_letters_words::proofs::NumberLemmas::due_facts))]
 fn due_of(text: &str) -> Option<(u64, &str)>
     ensures { option_map (λ p. (p.0, p.1.now)) result ≡ due_at text.now }
 {
@@ -58,7 +57,7 @@ fn due_of(text: &str) -> Option<(u64, &str)>
 }
 
 /// The period before the first space, and what is after that space.
-#[tactic(auto, unfolding(crate::specs::Reading::period_at), using(crate::proofs::NumberLemmas::small_facts))]
+#[tactic(auto, unfolding(crate::specs::Reading::period_at), using(dip_letters_words::proofs::NumberLemmas::small_facts))]
 fn period_of(text: &str) -> Option<(u32, &str)>
     ensures { option_map (λ p. (p.0, p.1.now)) result ≡ period_at text.now }
 {
@@ -107,7 +106,7 @@ fn intent_word_of(text: &str) -> Option<Option<bool>>
 }
 
 /// The command TICK, where the line and the body after it are one.
-#[tactic(auto, unfolding(crate::specs::Reading::tick_at), using(crate::proofs::NumberLemmas::due_facts))]
+#[tactic(auto, unfolding(crate::specs::Reading::tick_at), using(dip_letters_words::proofs::NumberLemmas::due_facts))]
 fn tick_of<'a>(line: &'a str, body: &'a str) -> Option<MasterCommand<'a>>
     ensures { option_map master_request result ≡ tick_at line.entry.now body.entry.now }
 {
@@ -155,7 +154,7 @@ fn notice_of<'a>(line: &'a str, body: &'a str) -> Option<Notice<'a>>
 }
 
 /// The ticks between two phases from now on.
-#[tactic(auto, unfolding(crate::specs::Reading::new_period_at), using(crate::proofs::NumberLemmas::small_facts))]
+#[tactic(auto, unfolding(crate::specs::Reading::new_period_at), using(dip_letters_words::proofs::NumberLemmas::small_facts))]
 fn new_period_of<'a>(line: &'a str, body: &'a str) -> Option<Notice<'a>>
     ensures { option_map notice_request result ≡ new_period_at line.entry.now body.entry.now }
 {

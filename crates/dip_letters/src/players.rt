@@ -5,10 +5,9 @@ ghost use Rattle.dip_letters.specs.Views.{player_request};
 
 use crate::bodies::order_lines_of;
 use crate::commands::{answer_of, plain_of};
-use crate::lines::after;
 use crate::press::{names_of, texts_of};
-use crate::words::{is_small_number, value_of};
 use crate::{PlayerCommand, Press};
+use dip_letters_words::{after, is_small_number, value_of};
 
 /// A power's command, by its line and the body after it.
 #[tactic(auto, unfolding(crate::specs::Reading::player_at))]
@@ -83,7 +82,7 @@ fn vote_for_of<'a>(line: &'a str, body: &'a str) -> Option<PlayerCommand<'a>>
 }
 
 /// The command INBOX, where the line and the body after it are one.
-#[tactic(auto, unfolding(crate::specs::Reading::inbox_at), using(crate::proofs::NumberLemmas::small_facts))]
+#[tactic(auto, unfolding(crate::specs::Reading::inbox_at), using(dip_letters_words::proofs::NumberLemmas::small_facts))]
 fn inbox_of<'a>(line: &'a str, body: &'a str) -> Option<PlayerCommand<'a>>
     ensures { option_map player_request result ≡ inbox_at line.entry.now body.entry.now }
 {

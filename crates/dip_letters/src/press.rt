@@ -1,13 +1,12 @@
 //! Names of powers, as in the addressees of press, and the lines of a text: press or an announcement.
 ghost use Rattle.std.specs.Prelude.{◌≡◌, option_map};
 ghost use Rattle.std.specs.Iterator.{YieldsFirstRef, item_count};
-ghost use Rattle.dip_letters.specs.Lines.{first_word_at};
+ghost use Rattle.dip_letters_words.specs.Lines.{first_word_at};
 ghost use Rattle.dip_letters.specs.Reading.{is_some, lines_fit, names_at, text_at, texts_at, words_fit};
 ghost use Rattle.dip_letters.specs.Views.{names_in, texts_in};
-ghost use Rattle.dip_letters.specs.Words.{is_name};
+ghost use Rattle.dip_letters_words.specs.Words.{is_name};
 
-use crate::lines::{after, line_of, word_of};
-use crate::words::{is_name, is_text};
+use dip_letters_words::{after, is_name, is_text, line_of, word_of};
 
 /// Names, as of the addressees of press or of the powers that a draw is wanted between, from the first one on.
 #[derive(Clone, Copy, Drop)]

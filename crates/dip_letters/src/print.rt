@@ -2,7 +2,7 @@
 ghost use Rattle.std.specs.Prelude.{◌≡◌, ◌++◌, ◌∷◌, [], IfOk, OnOk, codes, map, string_bytes};
 ghost use Rattle.std.specs.Fmt.{decimal};
 ghost use Rattle.dip_letters.specs.Letters.{body_lines, command_line, intent_words, master_body, master_line, notice_body, notice_line, player_body, player_line, press_name, seat_line, seat_words, spelling, text_line, words_of, yes_or_no};
-ghost use Rattle.dip_letters.specs.Lines.{text_of};
+ghost use Rattle.dip_letters_words.specs.Lines.{text_of};
 ghost use Rattle.dip_letters.specs.Views.{lines_in, master_request, names_in, note, notice_request, player_request, request, seat_note, seats_in, texts_in};
 
 use crate::{

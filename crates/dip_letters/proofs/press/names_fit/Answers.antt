@@ -1,8 +1,8 @@
 use Rattle.std.proofs.Common.{◌<◌, ap, arith, sym, ◌∙◌}
 use Rattle.dip_letters.specs.Reading.{words_fit}
-use Rattle.dip_letters.specs.Words.{is_name}
+use Rattle.dip_letters_words.specs.Words.{is_name}
 use Rattle.dip_letters.proofs.PressLemmas.{names_fail, names_last, names_more, names_zero}
-use Rattle.dip_letters.proofs.LineLemmas.{word_utf8}
+use Rattle.dip_letters_words.proofs.LineLemmas.{word_utf8}
 use Rattle.dip_letters.proofs.press.names_fit.Goals as goal
 
 pub returns-then-left-eq0 : goal.returns-then-left-eq0

@@ -1,7 +1,7 @@
 use Rattle.std.proofs.Common.{◌≡◌}
 use Rattle.std.specs.Str.{IsUtf8}
 use Rattle.dip_letters.specs.Reading.{words_fit}
-use Rattle.dip_letters.specs.Words.{is_name}
+use Rattle.dip_letters_words.specs.Words.{is_name}
 use Rattle.dip_letters.proofs.press.names_fit.Given as goal
 
 abbrev pub invariant-loop-name : goal.invariant-loop-name

@@ -1,7 +1,7 @@
 use Rattle.std.proofs.Common.{◌<◌, ap, arith, sym, ◌∙◌}
 use Rattle.dip_letters.specs.Reading.{lines_fit, is_some, text_at}
 use Rattle.dip_letters.proofs.BodyLemmas.{fit_fails, fit_more, fit_none, fit_zero}
-use Rattle.dip_letters.proofs.LineLemmas.{rest_utf8}
+use Rattle.dip_letters_words.proofs.LineLemmas.{rest_utf8}
 use Rattle.dip_letters.proofs.press.texts_fit.Goals as goal
 
 pub returns-then-left-eq0 : goal.returns-then-left-eq0

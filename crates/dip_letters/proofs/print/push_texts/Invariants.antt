@@ -1,6 +1,6 @@
 use Rattle.std.proofs.Common.{◌≡◌, ◌++◌, map, string_bytes}
 use Rattle.dip_letters.specs.Letters.{text_line}
-use Rattle.dip_letters.specs.Lines.{text_of}
+use Rattle.dip_letters_words.specs.Lines.{text_of}
 use Rattle.dip_letters.specs.Views.{texts_in}
 use Rattle.dip_letters.proofs.print.push_texts.Given as goal
 

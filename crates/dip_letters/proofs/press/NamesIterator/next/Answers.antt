@@ -1,5 +1,5 @@
 use Rattle.std.proofs.Common.{ap, arith, length, sym}
-use Rattle.dip_letters.proofs.LineLemmas.{words_first, words_none}
+use Rattle.dip_letters_words.proofs.LineLemmas.{words_first, words_none}
 use Rattle.dip_letters.specs.Views.{names_in}
 use Rattle.dip_letters.proofs.press.NamesIterator.next.Goals as goal
 

@@ -1,6 +1,6 @@
 use Rattle.std.proofs.Common.{ap, arith, length, sym}
 use Rattle.dip_letters.specs.Reading.{items_from, text_at}
-use Rattle.dip_letters.proofs.LineLemmas.{split_none}
+use Rattle.dip_letters_words.proofs.LineLemmas.{split_none}
 use Rattle.dip_letters.proofs.BodyLemmas.{item_first, item_none}
 use Rattle.dip_letters.specs.Views.{texts_in}
 use Rattle.dip_letters.proofs.press.TextsIterator.next.Goals as goal

@@ -1,0 +1,4 @@
+pub mod LineLemmas
+pub mod WordLemmas
+pub mod NameLemmas
+pub mod NumberLemmas

@@ -4,7 +4,7 @@ use Rattle.std.proofs.lemmas.Bool.{cases_Bool, both_ways}
 use mathlib.Core.Logic.{◌⊎◌}
 use Rattle.dip_decide_rules.specs.declared.decisions.Decision.{Decision}
 use Rattle.dip_decide_rules.specs.Corners.{at_corner, corner}
-use Rattle.dip_decide_rules.proofs.OneAnswer.{alike}
+use Rattle.dip_decide_table.proofs.Plain.{alike}
 use Rattle.dip_decide_rules.specs.Deciding.{Assignment, Known, Equation, IsCompletion, IsForced}
 
 -- of the decisions with m, b is at least a at those with r, and at most a at the others

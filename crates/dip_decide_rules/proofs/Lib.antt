@@ -1,4 +1,3 @@
-pub mod Sorted
 pub mod OneAnswer
 pub mod CornerLaws
 pub mod Rises
@@ -6,7 +5,6 @@ pub mod Progress
 pub mod Counting
 pub mod Following
 pub mod FromSteps
-pub mod TableLaws
 pub mod RingLaws
 pub mod Continuing
 pub mod ChainLaws
@@ -15,8 +13,8 @@ pub mod Rounds
 pub mod Chaining
 pub mod Searches
 pub mod Mentioners
-pub mod Backing
 pub mod Among
 pub mod Columns
 pub mod Meanings
-mod Standing
+pub use Rattle.dip_decide_table.proofs.Backing
+pub use Rattle.dip_decide_table.proofs.TableLaws

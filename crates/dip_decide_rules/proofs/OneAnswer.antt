@@ -4,6 +4,7 @@ use Rattle.std.proofs.Math.Path.{fun_ext}
 use Rattle.std.proofs.lemmas.Bool.{eqb-true, eq-eqb, or_cases, or_left, or_right, cases_Bool, both_ways}
 use Rattle.std.specs.Option.{unwrap_or}
 use mathlib.Core.Logic.{◌⊎◌}
+use Rattle.dip_decide_table.proofs.Plain.{alike}
 use Rattle.dip_decide_rules.specs.declared.decisions.Decision.{Decision}
 use Rattle.dip_decide_rules.specs.declared.decisions.Decision.TheVariants.{Move, Path, Support}
 use Rattle.dip_decide_rules.specs.Deciding.{same, is_among, Assignment, Known, Equation, Mentions, IsCompletion, IsForced, Follows, head_or, AreLinked, GoesRound, IsCircle, IsStuck, IsKnot, Step, Stands, give, Explains, is_broken}
@@ -51,12 +52,6 @@ apart_sym ds es f d h = go (cases_Bool (is_among d ds))
     go : (is_among d ds ≡ true) ⊎ (is_among d ds ≡ false) → is_among d ds ≡ false
     go (inl m) = absurd (both_ways _ (f d m) h)
     go (inr m) = m
-
--- two tests that hold alike are equal
-pub alike : (x y : Bool) → (x ≡ true → y ≡ true) → (y ≡ true → x ≡ true) → x ≡ y
-alike true y f g = sym (f refl)
-alike false true f g = g refl
-alike false false f g = refl
 
 -- completions
 

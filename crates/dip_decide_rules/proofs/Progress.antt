@@ -3,26 +3,20 @@ use Rattle.std.specs.Prelude.{◌==◌, Bool, true, false, not, ◌&&◌, ◌||�
 use Rattle.std.specs.List.{list_any}
 use Rattle.std.specs.Option.{is_some}
 use Rattle.std.proofs.lemmas.Bool.{eqb-true, eq-eqb, or_cases, or_parts, or_left, or_right, or_from, cases_Bool, both_ways, and_parts, and_from}
-use Rattle.std.proofs.lemmas.Bool.Decides.{nat_tests}
 use mathlib.Core.Logic.{◌⊎◌}
 use Rattle.dip_decide_rules.specs.declared.decisions.Decision.{Decision}
 use Rattle.dip_decide_rules.specs.declared.decisions.Decision.TheVariants.{Move, Path, Support}
 use Rattle.dip_decide_rules.specs.Deciding.{same, is_among, AreDistinct, Assignment, Known, Equation, IsCompletion, IsForced, Follows, AreLinked, GoesRound, is_move, IsCircle, Leads, Reaches, IsOpenPath, Mentions}
 use Rattle.dip_decide_rules.specs.Movement.{Situation, IsSituation, is_at, goes, has_move, head_to_head, rule, is_listed, is_decided, mentions}
 use Rattle.dip_decide_rules.specs.Steps.{decisions, is_unknown}
+pub use Rattle.dip_decide_table.proofs.Plain.{at_is, is_at_is}
+use Rattle.dip_decide_table.proofs.Plain.{flip_eq}
 use Rattle.dip_decide_rules.proofs.OneAnswer.{same_is, same_self, Apart, fill, fill_completes, fill_there}
 use Rattle.dip_decide_rules.proofs.CornerLaws.{agree}
 use Rattle.dip_decide_rules.specs.Corners.{rises}
 use Rattle.dip_decide_rules.proofs.Rises.{rule_rises}
 
 -- options
-
-pub is_at_is : (o : Option ℕ) (q : ℕ) → is_at o q ≡ true → o ≡ Some q
-is_at_is None q h = absurd (both_ways false refl h)
-is_at_is (Some p) q h = ap Some (eqb-true p q h)
-
-pub at_is : (o : Option ℕ) (q : ℕ) → o ≡ Some q → is_at o q ≡ true
-at_is o q e = rw e (eq-eqb q q refl)
 
 pub some_is : (o : Option ℕ) → is_some o ≡ true → (q : ℕ) × (o ≡ Some q)
 some_is None h = absurd (both_ways false refl h)
@@ -37,9 +31,6 @@ unknown_is None h = refl
 unknown_is (Some v) h = absurd (both_ways false refl h)
 
 -- all decisions of these places
-
-pub flip_eq : (x p : ℕ) → (x == p) ≡ true → (p == x) ≡ true
-flip_eq x p e = grind (arith, nat_tests)
 
 pub move_among : (ps : List ℕ) (p : ℕ) → is_listed ps p ≡ true → is_among (Move p) (decisions ps) ≡ true
 move_among [] p h = h

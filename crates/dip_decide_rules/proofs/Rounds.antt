@@ -1,6 +1,6 @@
 -- Where nothing is forced: a ring is a circle; without one, the open paths are the knot; without these, all is known.
 use Rattle.std.proofs.Common.{◌≡◌, ℕ, ◌≤◌, ◌<◌, ◌+◌, cond, List, [], ◌∷◌, ◌++◌, length, refl, sym, subst, ◌∙◌, inl, inr, zero, suc, arith}
-use Rattle.std.specs.Prelude.{◌==◌, ◌↔◌, Bool, true, false, None, Some, filter, not, ◌&&◌, IfOk, OnOk, Result, Ok, Err}
+use Rattle.std.specs.Prelude.{◌==◌, ◌↔◌, Bool, true, false, None, Some, filter, not, ◌&&◌, OnOk, Result, Ok, Err}
 use Rattle.std.specs.List.{list_any}
 use Rattle.std.proofs.lemmas.Bool.{cases_Bool, both_ways, or_cases, or_left, or_right, eq-eqb, and_parts, not-true}
 use Rattle.std.proofs.lemmas.Bool.Decides.{nat_tests}
@@ -13,8 +13,10 @@ use Rattle.dip_decide_rules.specs.Deciding.Step.{Circle, Knot}
 use Rattle.dip_decide_rules.specs.Movement.{Situation, IsSituation, is_listed, at_first, rule, mentions}
 use Rattle.dip_decide_rules.specs.Rings.{waits_for, leaves, AreWaiting, AreOpen, ArePathsOpen, IsRing, IsNonEmpty}
 use Rattle.dip_decide_rules.specs.Steps.{moves_of, paths_of, decisions, is_unknown, open_paths, NoneForced, IsStarted, Continues, IsTurn, IsReached}
+use Rattle.dip_decide_table.proofs.Plain.{at_is}
+pub use Rattle.dip_decide_table.proofs.Plain.{if_ok_more}
 use Rattle.dip_decide_rules.proofs.OneAnswer.{same_is, same_self, Next, next_in}
-use Rattle.dip_decide_rules.proofs.Progress.{some_is, at_is, known_or_open, unknown_is, listed_decision, open_decided, moves_alone, follows_one, arrives, reached_back}
+use Rattle.dip_decide_rules.proofs.Progress.{some_is, known_or_open, unknown_is, listed_decision, open_decided, moves_alone, follows_one, arrives, reached_back}
 use Rattle.dip_decide_rules.proofs.Following.{follows_target}
 use Rattle.dip_decide_rules.proofs.RingLaws.{waits_is, among_moves}
 use Rattle.dip_decide_rules.proofs.Giving.{among_paths, single_paths, moves_single, paths_single}
@@ -258,11 +260,6 @@ knot_opened r m k ps c p h = knot_open r m k (paths_of ps) c (Path p) (among_pat
 
 pub some_there : (n : ℕ) → (n == 0) ≡ false → 1 ≤ n
 some_there n h = grind (arith, nat_tests)
-
--- what holds of each good answer holds more
-pub if_ok_more : {A E : Type 0} (P Q : A → Type 0) (r : Result A E) → ((a : A) → P a → Q a) → IfOk r P → IfOk r Q
-if_ok_more P Q (Ok a) f h = f a h
-if_ok_more P Q (Err e) f h = h
 
 -- what holds with each good answer holds more
 pub on_ok_more : {A E : Type 0} (P Q : Type 0) (r : Result A E) → (P → Q) → OnOk r P → OnOk r Q

@@ -15,7 +15,8 @@ use Rattle.dip_decide_rules.proofs.ChainLaws.{listed_kept}
 use Rattle.dip_decide_rules.specs.Chains.{IsSought, IsSpread, IsSeeking}
 use Rattle.dip_decide_rules.specs.Steps.{moves_of}
 use Rattle.dip_decide_rules.proofs.Giving.{single_moves}
-use Rattle.dip_decide_rules.proofs.Progress.{no_more, flip_eq}
+use Rattle.dip_decide_rules.proofs.Progress.{no_more}
+use Rattle.dip_decide_table.proofs.Plain.{flip_eq}
 use Rattle.dip_decide_rules.proofs.RingLaws.{among_moves}
 
 listed_append : (xs ys : List ℕ) (x : ℕ) → is_listed (xs ++ ys) x ≡ (is_listed xs x || is_listed ys x)

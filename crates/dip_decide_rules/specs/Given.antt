@@ -1,28 +1,12 @@
 -- What the lists of the code stand for.
-use Rattle.std.specs.Prelude.{◌≡◌, ◌&&◌, ℕ, Bool, false, List, length, map, Option, None, Some, if◌then◌else◌}
+use Rattle.std.specs.Prelude.{◌≡◌, ◌&&◌, ℕ, Bool, false, List, length, Option, None, Some, if◌then◌else◌}
 use Rattle.std.specs.List.{slice_index_or}
-use Rattle.dip_map.specs.Charts.{Chart, provs}
-use Rattle.dip_orders.specs.declared.placed.PlacedOrder.{PlacedOrder}
 use Rattle.dip_decide_rules.specs.declared.decisions.Decision.{Decision}
 use Rattle.dip_decide_rules.specs.declared.decisions.Decision.TheVariants.{Move, Path, Support}
-use Rattle.dip_decide_rules.specs.declared.placed.Table.{Table}
+pub use Rattle.dip_decide_table.specs.Rows.{situation_of}
 use Rattle.dip_decide_rules.specs.declared.values.Values.{Values}
 use Rattle.dip_decide_rules.specs.Deciding.{Equation, Known, IsForced}
-use Rattle.dip_decide_rules.specs.Matching.{order_at, situation_by}
-use Rattle.dip_decide_rules.specs.Movement.{Situation, is_listed}
-use Rattle.dip_decide_rules.specs.Placed.{entry}
-
--- a row for each province: the order of the unit in it
-abbrev pub rows_of : List PlacedOrder → Chart → List (Option PlacedOrder)
-rows_of orders m = map (order_at orders) (provs m)
-
--- a column in which each province has this one row
-abbrev pub alike_rows : Option PlacedOrder → Chart → List (Option PlacedOrder)
-alike_rows row m = map (λ p. row) (provs m)
-
--- the situation of a table
-abbrev pub situation_of : Table → Situation
-situation_of t = situation_by t.map.now t.places.items (entry t.rows.items)
+use Rattle.dip_decide_rules.specs.Movement.{is_listed}
 
 -- what is known; a province after the lists has nothing to decide
 abbrev pub known_of : Values → Known

@@ -1,11 +1,6 @@
-pub mod Keys
-pub mod Held
 pub mod Deciding
 pub mod Movement
-pub mod Matching
-pub mod Meaning
 pub mod Chains
-pub mod Placed
 pub mod Given
 pub mod Corners
 pub mod Steps
@@ -13,3 +8,6 @@ pub mod Rings
 pub mod Results
 pub mod Laws
 pub mod Marks
+pub use Rattle.dip_decide_table.specs.Matching
+pub use Rattle.dip_decide_table.specs.Meaning
+pub use Rattle.dip_decide_table.specs.Placed

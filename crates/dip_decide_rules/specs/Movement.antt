@@ -1,52 +1,15 @@
 -- The rules of movement: strengths, the decision equations, and whom each equation mentions. A unit is named by its province.
 use Rattle.std.specs.Prelude.{◌≡◌, ℕ, ◌+◌, ◌==◌, nat_lt, Bool, true, false, not, ◌&&◌, ◌||◌, List, length, Option, None, Some, if◌then◌else◌, suc, zero}
 use Rattle.std.specs.List.{list_all, list_any, count_by}
-use Rattle.std.specs.Option.{is_some}
 use Rattle.dip_map.specs.Charts.{are_provs_single}
+pub use Rattle.dip_decide_table.specs.Situations.{Situation, is_at, goes, has_move, head_to_head, is_support, is_listed}
 use Rattle.dip_decide_rules.specs.declared.decisions.Decision.{Decision}
 use Rattle.dip_decide_rules.specs.declared.decisions.Decision.TheVariants.{Move, Path, Support}
 use Rattle.dip_decide_rules.specs.Deciding.{Assignment, Equation, Known, Mentions}
 
--- what movement needs of a map, a board and its orders
-pub record Situation : Type 0 where
-  -- the provinces with a unit
-  pub places : List ℕ
-  pub is_occupied : ℕ → Bool
-  -- the two units are of one power
-  pub same_power : ℕ → ℕ → Bool
-  -- where its move goes
-  pub target : ℕ → Option ℕ
-  -- its move goes by convoy
-  pub convoyed : ℕ → Bool
-  -- its support matches, and is for the second unit
-  pub supports : ℕ → ℕ → Bool
-  -- the province into which it supports a move
-  pub aim : ℕ → Option ℕ
-  -- it is a fleet in a sea, and its convoy matches the move of the second unit
-  pub convoys : ℕ → ℕ → Bool
-  -- neighbours for a fleet, of any coast
-  pub next : ℕ → ℕ → Bool
-
--- where it goes is q
-abbrev pub is_at : Option ℕ → ℕ → Bool
-is_at None q = false
-is_at (Some p) q = p == q
-
--- the unit in p has a move to q
-abbrev pub goes : Situation → ℕ → ℕ → Bool
-goes s p q = is_at (s.target p) q
-
--- the unit in p has a move
-abbrev pub has_move : Situation → ℕ → Bool
-has_move s p = is_some (s.target p)
-
 -- the move of p goes by land, or its path is given
 abbrev pub has_path : Situation → Assignment → ℕ → Bool
 has_path s a p = not (s.convoyed p) || a (Path p)
-
--- head to head: the two go to one another's provinces, neither by convoy
-abbrev pub head_to_head : Situation → ℕ → ℕ → Bool
-head_to_head s p q = (goes s p q && goes s q p) && (not (s.convoyed p) && not (s.convoyed q))
 
 -- how many given supports the unit in p has; each counts 1
 abbrev pub support : Situation → Assignment → ℕ → ℕ
@@ -100,10 +63,6 @@ move_rule s a p (Some q) = succeeds s a p q
 abbrev pub cuts : Situation → Assignment → ℕ → ℕ → Bool
 cuts s a h x = (goes s x h && not (s.same_power x h)) && (if is_at (s.aim h) x then a (Move x) else has_path s a x)
 
--- the unit in h has a support that matches
-abbrev pub is_support : Situation → ℕ → Bool
-is_support s h = list_any (λ p. s.supports h p) s.places
-
 -- a move into x succeeds
 abbrev pub is_entered : Situation → Assignment → ℕ → Bool
 is_entered s a x = list_any (λ m. goes s m x && a (Move m)) s.places
@@ -156,10 +115,6 @@ mentions s (Support h) (Path x) = (goes s x h && not (s.same_power x h)) && (s.c
 mentions s (Support h) (Move x) = (goes s x h && not (s.same_power x h)) && is_at (s.aim h) x
 mentions s (Path p) (Move m) = list_any (λ x. s.convoys x p && goes s m x) s.places
 mentions s _ _ = false
-
--- p is one of these
-abbrev pub is_listed : List ℕ → ℕ → Bool
-is_listed ps p = list_any (λ x. x == p) ps
 
 -- what holds of the situation of a board with orders
 pub record IsSituation (s : Situation) : Type 0 where

@@ -4,8 +4,7 @@ ghost use Rattle.dip_decide_rules.specs.Given.{situation_of};
 ghost use Rattle.dip_decide_rules.specs.Movement.{is_listed};
 ghost use Rattle.dip_decide_rules.specs.Chains.{IsSought, IsSpread};
 
-use crate::lists::is_in;
-use crate::placed::Table;
+use dip_decide_table::{Table, is_in};
 use dip_names::Prov;
 use std::alloc::AllocError;
 

@@ -8,10 +8,8 @@ ghost use Rattle.dip_decide_rules.specs.Movement.{goes, has_path, support, suppo
 
 use crate::chains::joins;
 use crate::decisions::Decision;
-use crate::lists::write_over;
-use crate::placed::Table;
-use crate::room::Room;
 use crate::values::Values;
+use dip_decide_table::{Room, Table, write_over};
 use dip_names::Prov;
 use std::alloc::AllocError;
 

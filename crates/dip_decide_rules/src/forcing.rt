@@ -1,15 +1,13 @@
 //! The test of a decision, and the count of all tests. Nothing else reads an equation, and nothing else raises the count.
 ghost use Rattle.std.specs.Prelude.{◌≡◌, ◌+◌, ◌<◌, ◌^◌, All, None, IfOk, length};
 ghost use Rattle.dip_decide_rules.specs.Given.{situation_of, known_of, IsAnswer};
-ghost use Rattle.dip_decide_rules.specs.Meaning.{situation_on};
+ghost use Rattle.dip_decide_table.specs.Meaning.{situation_on};
 ghost use Rattle.dip_decide_rules.specs.Movement.{rule, IsSituation};
 
 use crate::corners::Corner;
 use crate::decisions::Decision;
-use crate::meaning::table_on;
-use crate::placed::Table;
-use crate::room::Room;
 use crate::values::Values;
+use dip_decide_table::{Room, Table, table_on};
 use dip_map::{Board, Map};
 use dip_orders::PlacedOrder;
 use std::alloc::{AllocError, Global};

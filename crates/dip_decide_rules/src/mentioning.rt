@@ -6,7 +6,7 @@ ghost use Rattle.dip_decide_rules.specs.Given.{situation_of};
 ghost use Rattle.dip_decide_rules.specs.Movement.{IsSituation, mentions, move_mentions, goes};
 
 use crate::decisions::Decision;
-use crate::placed::Table;
+use dip_decide_table::Table;
 use dip_names::Prov;
 
 /// Whether a unit supports one that goes to a province.

@@ -1,7 +1,7 @@
 use Rattle.std.proofs.Common.{◌≡◌, subst}
 use Rattle.dip_decide_rules.specs.Given.{known_of, IsAnswer}
 use Rattle.dip_decide_rules.specs.Movement.{Situation, rule}
-use Rattle.dip_decide_rules.proofs.Rounds.{if_ok_more}
+use Rattle.dip_decide_table.proofs.Plain.{if_ok_more}
 use Rattle.dip_decide_rules.proofs.forcing.forced_by_orders.Goals as goal
 
 pub returns-in-Ok-clause-answer : goal.returns-in-Ok-clause-answer

@@ -1,7 +1,7 @@
 use Rattle.std.proofs.Common.{◌∙◌}
 use Rattle.dip_decide_rules.specs.Given.{situation_of}
-use Rattle.dip_decide_rules.proofs.Mentioners.{any_at, none_at}
-use Rattle.dip_decide_rules.proofs.Standing.{carrying_listed, and_when}
+use Rattle.dip_decide_table.proofs.Looks.{any_at, none_at}
+use Rattle.dip_decide_table.proofs.Standing.{carrying_listed, and_when}
 use Rattle.dip_decide_rules.proofs.mentioning.enters_carrier.Goals as goal
 
 pub returns-in-Some : goal.returns-in-Some

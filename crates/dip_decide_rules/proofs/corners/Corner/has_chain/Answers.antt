@@ -1,7 +1,7 @@
 use Rattle.dip_decide_rules.specs.Corners.{values}
 use Rattle.dip_decide_rules.specs.Given.{situation_of}
 use Rattle.dip_decide_rules.specs.Movement.{serves}
-use Rattle.dip_decide_rules.proofs.Rounds.{if_ok_more}
+use Rattle.dip_decide_table.proofs.Plain.{if_ok_more}
 use Rattle.dip_decide_rules.proofs.Searches.{sought_joins, serving_listed}
 use Rattle.dip_decide_rules.proofs.corners.Corner.has_chain.Goals as goal
 

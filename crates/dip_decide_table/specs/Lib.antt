@@ -1,0 +1,7 @@
+pub mod Keys
+pub mod Held
+pub mod Situations
+pub mod Matching
+pub mod Meaning
+pub mod Placed
+pub mod Rows

@@ -1,4 +1,6 @@
 //! Lists that are made once a board, for one search after the other to write in.
+ghost use Rattle.std.specs.Prelude.{◌≡◌, [], IfOk};
+
 use dip_names::Prov;
 use std::alloc::{AllocError, Global};
 
@@ -12,8 +14,11 @@ pub struct Room {
 }
 
 impl Room {
-    /// Room for searches among so many units.
-    pub fn with_capacity(alloc: Global, units: usize) -> Result<Room, AllocError> {
+    /// Room for searches among so many units: nothing is in it.
+    pub fn with_capacity(alloc: Global, units: usize) -> Result<Room, AllocError>
+        ensures fleets { IfOk result (λ room. room.fleets.items ≡ []) }
+        ensures trail { IfOk result (λ room. room.trail.items ≡ []) }
+    {
         let fleets = Vec::with_capacity(alloc, units)?;
         let trail = Vec::with_capacity(alloc, units)?;
         Ok(Room { fleets, trail })

@@ -53,7 +53,7 @@ fn push_own_way(meets: bool, out: &mut String) -> Result<(), AllocError>
     out.push_str(own_words(meets))
 }
 
-/// What stands before the province in which a supporter's own power is attacked.
+/// The words before the province of a unit whose power is the supporter's own.
 #[tactic(auto, unfolding(crate::specs::StrengthTexts::own_power_words))]
 fn own_power_words() -> &'static str
     ensures { result.now ≡ m.own_power_words }

@@ -1,12 +1,15 @@
 -- How long a client has.
 use Rattle.std.specs.Prelude.{Bool, Ok, Result, false, true, ℕ}
 
--- in nanoseconds: for its first byte two seconds, for its whole request ten, and after its answer half a second
+-- in nanoseconds: for its first byte two seconds, for its whole request ten, for taking its answer as many, and after it half a second
 abbrev pub silent_limit : ℕ
 silent_limit = 2000000000
 
 abbrev pub request_limit : ℕ
 request_limit = 10000000000
+
+abbrev pub answer_limit : ℕ
+answer_limit = 10000000000
 
 abbrev pub dropping_limit : ℕ
 dropping_limit = 500000000

@@ -4,7 +4,7 @@ ghost use Rattle.dip_http.specs.Ends.{AnswersOne};
 
 use crate::answering::answer_one;
 use crate::faults::HttpFault;
-use crate::timed::{MOST_SECONDS, Timed};
+use crate::timed::{Timed, TimedAnswer};
 use dip_desk_keeper::Keeper;
 use dip_desk_state::KeepFault;
 use dip_http_messages::Routes;
@@ -13,7 +13,7 @@ use dip_streams::read_some;
 use std::alloc::Global;
 use std::io::Read;
 use std::net::{Shutdown, TcpStream};
-use std::time::{Clock, Duration};
+use std::time::Clock;
 
 /// How many reads, of at most 1,024 bytes each, are made of what a client still sends after its request.
 pub const MOST_DROPPED: u32 = 64;
@@ -29,13 +29,13 @@ fn drop_rest<R: Read>(reader: &mut R) {
     }
 }
 
-/// Answers one client. Its first byte has `MOST_SILENT_SECONDS` to come and its request `MOST_SECONDS`; each write of the answer has as
-/// long to be taken. Then no more is written. What a client that was answered still sends within `MOST_DROPPING_MILLIS` is dropped, at
+/// Answers one client. Its first byte has `MOST_SILENT_SECONDS` to come and its request `MOST_SECONDS`; its whole answer has as long
+/// to be taken. Then no more is written. What a client that was answered still sends within `MOST_DROPPING_MILLIS` is dropped, at
 /// most `MOST_DROPPED` reads of it, so that the answer reaches it.
 ///
 /// # Errors
-/// Those of `answer_one`: a client that was too slow gives `Read`, and its answer is nothing; a clock or a socket that can't be asked gives `Read`
-/// too. Nothing after the answer is told of.
+/// Those of `answer_one`: a client that was too slow gives `Read`, and its answer is nothing; a clock that can't be asked gives `Read`
+/// too. A client that is too slow to take its answer gives `Write`. Nothing after the answer is told of.
 pub fn serve_one<C: Clock, K: Keeper>(
     alloc: Global,
     clock: &C,
@@ -50,11 +50,7 @@ pub fn serve_one<C: Clock, K: Keeper>(
     let Ok(mut reader) = Timed::new(stream, clock) else {
         return Err(HttpFault::Read);
     };
-    let most = Some(Duration::from_secs(MOST_SECONDS));
-    if stream.set_write_timeout(most).is_err() {
-        return Err(HttpFault::Read);
-    }
-    let mut writer = stream;
+    let mut writer = TimedAnswer::new(stream, clock);
     let result = answer_one(alloc, &mut reader, &mut writer, keeper, map, routes);
     let is_answered = match &result {
         Err(HttpFault::Read) | Err(HttpFault::Memory) => false,

@@ -17,4 +17,4 @@ pub use dip_http_messages::Routes;
 pub use faults::HttpFault;
 pub use laws::{answers_are_one, connections_are_turns, gets_are_public, posts_are_settled};
 pub use serving::serve_all;
-pub use timed::{MOST_DROPPING_MILLIS, MOST_SECONDS, MOST_SILENT_SECONDS, Timed};
+pub use timed::{MOST_DROPPING_MILLIS, MOST_SECONDS, MOST_SILENT_SECONDS, Timed, TimedAnswer};

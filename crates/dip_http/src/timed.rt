@@ -1,19 +1,19 @@
-//! What is read of a client within a time, however slowly it writes.
+//! What is read of a client and written to it within a time, however slowly it writes and reads.
 ghost use Rattle.std.specs.Duration.{as_nanos};
-ghost use Rattle.std.specs.Prelude.{◌≡◌, ◌≤◌, IfOk, None, OnOk, false, true};
-ghost use Rattle.std.specs.Io.{ReadsAtMost};
-ghost use Rattle.std.specs.Io.KnownBytes.{ReadConsumes};
-ghost use Rattle.dip_http.specs.Timing.{dropping_limit, limit_after, silent_limit};
+ghost use Rattle.std.specs.Prelude.{◌≡◌, ◌≤◌, IfOk, IfSome, None, OnOk, Some, false, true};
+ghost use Rattle.std.specs.Io.{ReadsAtMost, WritesAtMost};
+ghost use Rattle.std.specs.Io.KnownBytes.{Keeps, ReadConsumes, WriteAppends};
+ghost use Rattle.dip_http.specs.Timing.{answer_limit, dropping_limit, limit_after, silent_limit};
 
 use std::io;
-use std::io::{ErrorKind, Read};
+use std::io::{ErrorKind, Read, Write};
 use std::net::TcpStream;
 use std::time::{Clock, Duration, Instant};
 
 /// How many seconds a client has for its first byte: a browser opens connections that it doesn't use.
 pub const MOST_SILENT_SECONDS: u64 = 2;
 
-/// How many seconds a client has for its whole request, from the first look at the clock.
+/// How many seconds a client has for its whole request, from the first look at the clock, and then for taking its whole answer.
 pub const MOST_SECONDS: u64 = 10;
 
 /// How many milliseconds are spent on what a client still sends after its answer.
@@ -94,5 +94,69 @@ impl<C: Clock> Read for Timed<'_, C> {
             self.limit = Duration::from_secs(MOST_SECONDS);
         }
         Ok(count)
+    }
+}
+
+/// A writer of a client's answer that fails, by `TimedOut` or by `WouldBlock`, once `MOST_SECONDS` have gone since its first write. Each
+/// write waits for the rest of that time at most, so that a client who reads one byte now and then gains nothing.
+#[derive(Drop)]
+pub struct TimedAnswer<'a, C: Clock> {
+    stream: &'a TcpStream,
+    clock: &'a C,
+    start: Option<Instant>,
+}
+
+impl<'a, C: Clock> TimedAnswer<'a, C> {
+    /// Nothing is written yet, and no time runs.
+    pub fn new(stream: &'a TcpStream, clock: &'a C) -> TimedAnswer<'a, C>
+        ensures { result.start ≡ None }
+    {
+        TimedAnswer {
+            stream,
+            clock,
+            start: None,
+        }
+    }
+
+    /// What is left of the answer's time, which begins with the first call; nothing once it has passed.
+    fn time_left(&mut self) -> io::Result<Duration>
+        ensures start { IfSome self.old.start (λ begun. self.new.start ≡ Some begun) }
+        ensures left { IfOk result (λ left. as_nanos left ≤ answer_limit) }
+    {
+        let start = match self.start {
+            Some(start) => start,
+            None => {
+                let now = Instant::now(self.clock)?;
+                self.start = Some(now);
+                now
+            }
+        };
+        let gone = start.elapsed(self.clock)?;
+        Ok(Duration::from_secs(MOST_SECONDS).saturating_sub(gone))
+    }
+}
+
+impl<C: Clock> Write for TimedAnswer<'_, C> {
+    // The time runs on from its start, whatever is taken.
+    fn write(&mut self, buffer: &[u8]) -> io::Result<usize>
+        ensures bound { WritesAtMost result buffer.now }
+        ensures bytes { WriteAppends None None result buffer.now }
+        ensures start { IfSome self.old.start (λ begun. self.new.start ≡ Some begun) }
+    {
+        let left = self.time_left()?;
+        if left.is_zero() {
+            return Err(ErrorKind::TimedOut.into());
+        }
+        let mut stream = self.stream;
+        stream.set_write_timeout(Some(left))?;
+        stream.write(buffer)
+    }
+
+    // A socket keeps nothing back.
+    fn flush(&mut self) -> io::Result<()>
+        ensures bytes { Keeps None None }
+        ensures start { self.new.start ≡ self.old.start }
+    {
+        Ok(())
     }
 }

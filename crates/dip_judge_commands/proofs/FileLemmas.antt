@@ -18,6 +18,8 @@ use Rattle.dip_store.specs.Opening.{IsDesk, IsMadeForText, IsNowOf, IsShutBy, Is
 use Rattle.dip_store.specs.StoreFault.{StoreFault}
 use Rattle.dip_judge_words.specs.declared.args.Args.{Args}
 use Rattle.dip_judge_commands.proofs.StoredLemmas.{some_fault}
+use Rattle.clap.specs.Words.{Text}
+use Rattle.dip_judge_commands.specs.Asked.{IfAsked, IsAskedFor}
 use Rattle.dip_judge_commands.specs.Files.{FromHeld, HasFaults, HeldDesk, IsFoundIn, LeavesStore, StopsStore, TellsOfFile, TellsStore, WasMadeFor, WasOpened, WasShutFor}
 use Rattle.dip_judge_commands.specs.Lasting.{HeldLawful, Lasts, LastsAs, LastsFrom, LastsServing}
 use Rattle.dip_judge_commands.specs.Stores.{TellsOfStore}
@@ -119,5 +121,19 @@ module _ {S : Type 0} (g : Ghosts S) (image : Image) (m : Chart) (known left bef
   pub leaves_as : OnOk r (LeavesStore g image m known left before after b opened) → OnOk r (LeavesStore g image m known left before after a opened)
   leaves_as leaves = subst (λ a. OnOk r (LeavesStore g image m known left before after a opened)) (sym is) leaves
 
-  pub stops_as : IfErr r (λ f. IfSome opened (StopsStore g image m known left before after b f)) → IfErr r (λ f. IfSome opened (StopsStore g image m known left before after a f))
-  stops_as stops = subst (λ a. IfErr r (λ f. IfSome opened (StopsStore g image m known left before after a f))) (sym is) stops
+  pub stops_as : IfErr r (λ f. StopsStore g image m known left before after b f opened) → IfErr r (λ f. StopsStore g image m known left before after a f opened)
+  stops_as stops = subst (λ a. IfErr r (λ f. StopsStore g image m known left before after a f opened)) (sym is) stops
+
+-- what is asked for is so whatever the failure
+pub if_asked : (standard : List ℕ) (words : List Text) (P : Args → Chart → Type 0) (f : Failure) → IsAskedFor standard words P → IfAsked standard words f P
+if_asked standard words P (Usage fault) asked = tt
+if_asked standard words P (Map fault) asked = tt
+if_asked standard words P (Store fault) asked = asked
+if_asked standard words P NoMemory asked = asked
+if_asked standard words P Listen asked = asked
+if_asked standard words P (Run fault) asked = asked
+if_asked standard words P (Serving fault) asked = asked
+if_asked standard words P NoGame asked = asked
+if_asked standard words P Negative asked = asked
+if_asked standard words P (Checking fault) asked = asked
+if_asked standard words P (Papers fault) asked = asked

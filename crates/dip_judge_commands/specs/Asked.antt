@@ -36,6 +36,12 @@ Streams m known left before after Version = (left ≡ known) × Appends before a
 abbrev pub IsAskedFor : List ℕ → List Text → (Args → Chart → Type 0) → Type 0
 IsAskedFor standard words P = (a : Args) × (m : Chart) × IsAsked standard words a m × P a m
 
+-- unless the words are wrong or there is no map, they ask for something of which this is so
+abbrev pub IfAsked : List ℕ → List Text → Failure → (Args → Chart → Type 0) → Type 0
+IfAsked standard words (Usage fault) P = Unit {0}
+IfAsked standard words (Map fault) P = Unit {0}
+IfAsked standard words failure P = IsAskedFor standard words P
+
 -- the words ask for something, by the map of a text, of which this is so
 abbrev pub IsAskedOver : List ℕ → List Text → (Args → Chart → List ℕ → Type 0) → Type 0
 IsAskedOver standard words P = (a : Args) × (m : Chart) × (text : List ℕ) × IsGiven words a × IsFit a

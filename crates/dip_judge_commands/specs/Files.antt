@@ -14,7 +14,7 @@ use Rattle.dip_store.specs.Calls.{does_show, is_honest}
 use Rattle.dip_store.specs.Opening.{Holds, IsMadeForText, IsShutFor, Says, SaysText}
 use Rattle.dip_store.specs.StoreFault.{StoreFault}
 use Rattle.dip_judge_runs.specs.Fresh.{fresh_desk}
-use Rattle.dip_judge_commands.specs.Stores.{AnswersFrom, Reports, ServesFrom, StopsFrom, StopsReport, StopsServing}
+use Rattle.dip_judge_commands.specs.Stores.{AnswersFrom, IsFindFault, IsOpenFault, Reports, ServesFrom, StopsFrom, StopsReport, StopsServing}
 use Rattle.dip_judge_commands.specs.declared.failures.Failure.{Failure}
 use Rattle.dip_judge_commands.specs.declared.failures.Failure.TheVariants.{Store}
 
@@ -30,6 +30,16 @@ HeldDesk image m s = (db : Database) → IsFoundIn image db → Says m s db
 abbrev pub WasOpened : {H : Type 0} → Option H → (H → Type 0) → Type 0
 WasOpened None P = ⊥
 WasOpened (Some store) P = P store
+
+-- a command over a store failed, by a fault of the store, which couldn't be opened; or it was opened, and this is so of it as it is
+-- handed back
+abbrev pub IsUnopened : (StoreFault → Type 0) → Failure → Type 0
+IsUnopened Fault (Store fault) = Fault fault
+IsUnopened Fault failure = ⊥
+
+abbrev pub IfOpened : {H : Type 0} → (StoreFault → Type 0) → Failure → Option H → (H → Type 0) → Type 0
+IfOpened Fault failure None P = IsUnopened Fault failure
+IfOpened Fault failure (Some store) P = P store
 
 -- while the disk returns what was written: from the state that the file held to what the store has
 abbrev pub FromHeld : {S : Type 0} → Ghosts S → Image → Chart → (State → Held S → Type 0) → Held S
@@ -103,16 +113,16 @@ module _ {S : Type 0} (g : Ghosts S) (image : Image) (m : Chart) (known left bef
   LeavesStore (Explain paper file) opened = Unit {0}
   LeavesStore Version opened = Unit {0}
 
-  -- and one that ended early of the store that it had opened
-  abbrev pub StopsStore : Args → Failure → Held S → Type 0
-  StopsStore (Init path master file) failure = UnmadeIn g image
-  StopsStore (Letters master file) failure = λ store. Unit {0}
-  StopsStore (Stored path file) failure = AnswersUpTo g image m known left before after failure
-  StopsStore (Serve path port count file) failure = StopsServingIn g image m count failure
-  StopsStore (Report path game file) failure = StopsReportIn g image m game.now before after failure
-  StopsStore (Check file) failure = λ store. Unit {0}
-  StopsStore (Explain paper file) failure = λ store. Unit {0}
-  StopsStore Version failure = λ store. Unit {0}
+  -- and one that ended early
+  abbrev pub StopsStore : Args → Failure → Option (Held S) → Type 0
+  StopsStore (Init path master file) failure opened = IfOpened IsOpenFault failure opened (UnmadeIn g image)
+  StopsStore (Letters master file) failure opened = Unit {0}
+  StopsStore (Stored path file) failure opened = IfOpened IsFindFault failure opened (AnswersUpTo g image m known left before after failure)
+  StopsStore (Serve path port count file) failure opened = IfOpened IsFindFault failure opened (StopsServingIn g image m count failure)
+  StopsStore (Report path game file) failure opened = IfOpened IsFindFault failure opened (StopsReportIn g image m game.now before after failure)
+  StopsStore (Check file) failure opened = Unit {0}
+  StopsStore (Explain paper file) failure opened = Unit {0}
+  StopsStore Version failure opened = Unit {0}
 
 -- what a command tells of the store that it opened, by the map of this text: a new desk is of that
 -- text; the others tell whether the file's desk is

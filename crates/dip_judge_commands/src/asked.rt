@@ -2,10 +2,10 @@
 ghost use Rattle.std.specs.Prelude.{map as each, IfErr, IfSome, OnOk};
 ghost use Rattle.sqlite.specs.Files.{over_files};
 ghost use Rattle.sqlite.specs.WalFiles.{image_at};
-ghost use Rattle.dip_judge_commands.specs.Asked.{Fails, IsAskedFor, IsAskedOver, IsDone, IsFailed, IsInitFailure, Streams};
-ghost use Rattle.dip_judge_commands.specs.Files.{AnswersIn, AnswersUpTo, LeavesStore, MadeIn, ReportsIn, ServesIn, StopsReportIn, StopsServingIn, StopsStore, TellsOfFile, TellsStore, UnmadeIn, WasOpened};
+ghost use Rattle.dip_judge_commands.specs.Asked.{Fails, IfAsked, IsAskedFor, IsAskedOver, IsDone, IsFailed, IsInitFailure, Streams};
+ghost use Rattle.dip_judge_commands.specs.Files.{AnswersIn, AnswersUpTo, IfOpened, LeavesStore, MadeIn, ReportsIn, ServesIn, StopsReportIn, StopsServingIn, StopsStore, TellsOfFile, TellsStore, UnmadeIn, WasOpened};
 ghost use Rattle.dip_judge_commands.specs.Lasting.{LastsAs, LastsIn, LastsServing, LeavesLawful};
-ghost use Rattle.dip_judge_commands.specs.Stores.{IsReportFailure, IsServeFailure, ReadsInput};
+ghost use Rattle.dip_judge_commands.specs.Stores.{IsFindFault, IsOpenFault, IsReportFailure, IsServeFailure, ReadsInput};
 ghost use Rattle.dip_store.specs.Calls.{is_honest};
 ghost use Rattle.dip_store.specs.Opening.{SaysText};
 
@@ -33,7 +33,7 @@ fn init_file<S: Start>(
     ensures made { OnOk result.0
         (WasOpened result.1 (MadeIn over_files map.now master.now)) }
     ensures unmade { IfErr result.0
-        (λ _. IfSome result.1 (UnmadeIn over_files (image_at S.Start))) }
+        (λ f. IfOpened IsOpenFault f result.1 (UnmadeIn over_files (image_at S.Start))) }
     ensures failed { IfErr result.0 IsInitFailure }
     ensures tells { IfSome result.1 (λ store. is_honest over_files store
         → OnOk result.0 (SaysText over_files text.now store)) }
@@ -63,7 +63,7 @@ fn answer_file<S: Start, R: Read, W: Write>(
     ensures done { OnOk result.0 (WasOpened result.1 (AnswersIn over_files (image_at S.Start)
         map.now (R.remaining reader.old) (R.remaining reader.new) (W.contents writer.old)
         (W.contents writer.new))) }
-    ensures stops { IfErr result.0 (λ f. IfSome result.1
+    ensures stops { IfErr result.0 (λ f. IfOpened IsFindFault f result.1
         (AnswersUpTo over_files (image_at S.Start) map.now (R.remaining reader.old)
         (R.remaining reader.new) (W.contents writer.old) (W.contents writer.new) f)) }
     ensures reads { ReadsInput (R.remaining reader.old) (R.remaining reader.new)
@@ -94,7 +94,7 @@ fn serve_file<S: Start>(
 ) -> (Result<(), Failure>, Option<Stored<S>>)
     ensures done { OnOk result.0
         (WasOpened result.1 (ServesIn over_files (image_at S.Start) map.now count)) }
-    ensures stops { IfErr result.0 (λ f. IfSome result.1
+    ensures stops { IfErr result.0 (λ f. IfOpened IsFindFault f result.1
         (StopsServingIn over_files (image_at S.Start) map.now count f)) }
     ensures failed { IfErr result.0 IsServeFailure }
     ensures tells { IfSome result.1 (λ store.
@@ -123,7 +123,7 @@ fn report_file<S: Start, W: Write>(
 ) -> (Result<(), Failure>, Option<Stored<S>>)
     ensures done { OnOk result.0 (WasOpened result.1 (ReportsIn over_files (image_at S.Start)
         map.now game.now (W.contents writer.old) (W.contents writer.new))) }
-    ensures stops { IfErr result.0 (λ f. IfSome result.1
+    ensures stops { IfErr result.0 (λ f. IfOpened IsFindFault f result.1
         (StopsReportIn over_files (image_at S.Start) map.now game.now (W.contents writer.old)
         (W.contents writer.new) f)) }
     ensures failed { IfErr result.0 IsReportFailure }
@@ -158,9 +158,9 @@ fn do_asked<S: Start, R: Read, W: Write>(
     ensures leaves { OnOk result.0 (LeavesStore over_files (image_at S.Start) map.now
         (R.remaining reader.old) (R.remaining reader.new) (W.contents writer.old)
         (W.contents writer.new) args.now result.1) }
-    ensures stops { IfErr result.0 (λ f. IfSome result.1 (StopsStore over_files (image_at S.Start)
-        map.now (R.remaining reader.old) (R.remaining reader.new) (W.contents writer.old)
-        (W.contents writer.new) args.now f)) }
+    ensures stops { IfErr result.0 (λ f. StopsStore over_files (image_at S.Start) map.now
+        (R.remaining reader.old) (R.remaining reader.new) (W.contents writer.old)
+        (W.contents writer.new) args.now f result.1) }
     ensures tells { IfSome result.1 (λ store.
         TellsStore over_files (image_at S.Start) map.now text.now args.now store result.0) }
     ensures lasts { IfSome result.1 (λ store.
@@ -220,10 +220,9 @@ pub fn do_as_asked<S: Start, R: Read, W: Write>(
     ensures lasts { IfSome result.1 (λ store. IsAskedFor STANDARD.now
         (each (λ w. w.now) words.entry.now)
         (λ a m. LastsAs over_files (image_at S.Start) m a store result.0)) }
-    ensures stops { IfErr result.0 (λ f. IfSome result.1 (λ store. IsAskedFor STANDARD.now
-        (each (λ w. w.now) words.entry.now) (λ a m. StopsStore over_files (image_at S.Start) m
-        (R.remaining reader.old) (R.remaining reader.new) (W.contents writer.old)
-        (W.contents writer.new) a f store))) }
+    ensures stops { IfErr result.0 (λ f. IfAsked STANDARD.now (each (λ w. w.now) words.entry.now) f
+        (λ a m. StopsStore over_files (image_at S.Start) m (R.remaining reader.old)
+        (R.remaining reader.new) (W.contents writer.old) (W.contents writer.new) a f result.1)) }
 {
     let alloc = system.alloc();
     match read_args(alloc, words) {

@@ -1,5 +1,5 @@
 //! What a command may do of the system, and nothing else.
-ghost use Rattle.std.specs.Prelude.{IfErr, IfOk, option_map};
+ghost use Rattle.std.specs.Prelude.{◌≡◌, IfErr, IfOk, option_map};
 ghost use Rattle.sqlite.specs.Files.{IsOpened, file_state};
 ghost use Rattle.sqlite.specs.Start.{FindsIn};
 ghost use Rattle.sqlite.specs.State.{HasCleanDisk};
@@ -34,7 +34,9 @@ pub struct System<'a> {
 
 impl<'a> System<'a> {
     /// What a command may do of all that the system hands the program.
-    pub fn new(rt: &'a HostRuntime) -> System<'a> {
+    pub fn new(rt: &'a HostRuntime) -> System<'a>
+        ensures { result.rt ≡ rt.entry }
+    {
         System { rt }
     }
 }

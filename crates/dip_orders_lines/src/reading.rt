@@ -9,7 +9,7 @@ use crate::forms::{Form, Mention};
 use crate::parts::{is_any_case, mention_of, spot_of};
 use crate::words::tokens;
 
-/// `BUILD A par`, `REMOVE A par`, `A par H`, `A mun D`.
+/// The order that three words say, as `BUILD A par`, `REMOVE A par`, `A par H` or `A mun D`, if they say one.
 fn three_of(a: &[u8], b: &[u8], c: &[u8]) -> Option<Form>
     ensures { result ≡ three_at a.now b.now c.now }
 {
@@ -31,7 +31,7 @@ fn three_of(a: &[u8], b: &[u8], c: &[u8]) -> Option<Form>
     None
 }
 
-/// `A par - bur`, `A mun R boh`.
+/// The order that four words say, as `A par - bur` or `A mun R boh`, if they say one.
 fn four_of(unit: Mention, verb: &[u8], to: &[u8]) -> Option<Form>
     ensures { result ≡ four_at unit verb.now to.now }
 {
@@ -49,7 +49,7 @@ fn four_of(unit: Mention, verb: &[u8], to: &[u8]) -> Option<Form>
     None
 }
 
-/// `A mar S A par`, `A lon - bel VIA`.
+/// The order that five words say, as `A mar S A par` or `A lon - bel VIA`, if they say one.
 fn five_of(unit: Mention, verb: &[u8], a: &[u8], b: &[u8]) -> Option<Form>
     ensures { result ≡ five_at unit verb.now a.now b.now }
 {
@@ -72,7 +72,7 @@ fn five_of(unit: Mention, verb: &[u8], a: &[u8], b: &[u8]) -> Option<Form>
     None
 }
 
-/// `A mar S A par H`.
+/// The order that six words say, as `A mar S A par H`, if they say one.
 fn six_of(unit: Mention, verb: &[u8], kind: &[u8], at: &[u8], last: &[u8]) -> Option<Form>
     ensures { result ≡ six_at unit verb.now kind.now at.now last.now }
 {
@@ -87,7 +87,7 @@ fn six_of(unit: Mention, verb: &[u8], kind: &[u8], at: &[u8], last: &[u8]) -> Op
     None
 }
 
-/// `A mar S A par - bur`, `F nth C A lon - bel`.
+/// The order that seven words say, as `A mar S A par - bur` or `F nth C A lon - bel`, if they say one.
 fn seven_of(
     unit: Mention,
     verb: &[u8],

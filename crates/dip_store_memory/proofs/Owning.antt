@@ -1,5 +1,5 @@
 -- Own parts that are remembered.
-use Rattle.std.proofs.Common.{◌≡◌, ◌<◌, ◌==◌, ◌+◌, ◌++◌, ℕ, zero, suc, Bool, true, false, cond, nat_le, List, [], ◌∷◌, Option, Some, Result, Ok, Err, OnOk, OnErr, map, filter, take, drop, get_or, length, option_map, unwrap_or, refl, sym, ap, subst, ◌∙◌, arith, add-one, bytes_eq, String, string_bytes, Vec, vec_len, slice_set, eqb-true}
+use Rattle.std.proofs.Common.{◌≡◌, ◌<◌, ◌==◌, ◌+◌, ◌++◌, ◌⊎◌, inl, inr, ℕ, zero, suc, Bool, true, false, cond, nat_le, List, [], ◌∷◌, Option, Some, Result, Ok, Err, OnOk, OnErr, map, filter, take, drop, get_or, length, option_map, unwrap_or, refl, sym, ap, subst, ◌∙◌, arith, add-one, bytes_eq, String, string_bytes, Vec, vec_len, slice_set, eqb-true}
 use Rattle.std.specs.declared.alloc.Global.{Global}
 use Rattle.std.specs.List.{AllByRecursion}
 use Rattle.std.specs.Map.{lookup, values_of}
@@ -11,7 +11,7 @@ use Rattle.dip_desk_state.specs.Records as r
 use Rattle.dip_desk_state.specs.Rows as rows
 use Rattle.dip_desk_state.specs.State.{Change, State, own_at, state_after}
 use Rattle.dip_desk_state.specs.declared.records.Own.{Own}
-use Rattle.dip_store_memory.specs.Owns.{HasOwn, Owns, RecallsOwns, leaves_owns_known, many_owns, most_owns, own_among, own_after, owns_of, owns_with_room}
+use Rattle.dip_store_memory.specs.Owns.{AreShort, HasOwn, HoldsOwns, MayForget, Owns, RecallsOwns, is_short, leaves_owns_known, many_owns, most_owns, own_among, own_after, owns_of, owns_with_room}
 use Rattle.dip_store_memory.proofs.After.{has_own, letter_stays, other_stays}
 use Rattle.dip_store_memory.proofs.Named.{found_said, said, updated_said}
 
@@ -85,13 +85,13 @@ pushed_said os x o is = map-append (λ o. rows.own o) os (x ∷ []) ∙ ap (λ (
 pub recalls_no_owns : (s : State) → RecallsOwns s []
 recalls_no_owns s name = tt
 
--- nor where room is made
-pub recalls_with_room : (s : State) (ws : Owns) → RecallsOwns s ws → RecallsOwns s (owns_with_room ws)
-recalls_with_room s ws recalls = go (nat_le most_owns (many_owns ws))
+-- what holds of each holds where room is made
+holds_with_room : (P : List ℕ → r.Own → Type 0) (ws : Owns) → HoldsOwns P ws → HoldsOwns P (owns_with_room ws)
+holds_with_room P ws holds = go (nat_le most_owns (many_owns ws))
   where
-    go : (b : Bool) → RecallsOwns s (cond b [] ws)
-    go true = recalls_no_owns s
-    go false = recalls
+    go : (b : Bool) → HoldsOwns P (cond b [] ws)
+    go true = λ name. tt
+    go false = holds
 
 -- what is found among them the state has
 pub recalled_own : (s : State) (ws : Owns) (name : List ℕ) (power : ℕ) (o : r.Own) → RecallsOwns s ws → own_among power (owns_of name ws) ≡ Some o → own_at name power s ≡ Some o
@@ -129,19 +129,19 @@ IsLeft name old new = (other : List ℕ) → owns_of other new ≡ cond (bytes_e
 abbrev IsPut : List ℕ → List r.Own → Owns → Owns → Type 0
 IsPut name os old new = (other : List ℕ) → owns_of other new ≡ cond (bytes_eq name other) os (owns_of other old)
 
-pub left_recalls : (s : State) (name : List ℕ) (old new : Owns) → IsLeft name old new → RecallsOwns s old → RecallsOwns s new
-left_recalls s name old new left recalls other = go (bytes_eq name other) (left other)
+left_holds : (P : List ℕ → r.Own → Type 0) (name : List ℕ) (old new : Owns) → IsLeft name old new → HoldsOwns P old → HoldsOwns P new
+left_holds P name old new left holds other = go (bytes_eq name other) (left other)
   where
-    go : (b : Bool) → owns_of other new ≡ cond b [] (owns_of other old) → AllByRecursion (HasOwn s other) (owns_of other new)
-    go true is = subst (AllByRecursion (HasOwn s other)) (sym is) tt
-    go false is = subst (AllByRecursion (HasOwn s other)) (sym is) (recalls other)
+    go : (b : Bool) → owns_of other new ≡ cond b [] (owns_of other old) → AllByRecursion (P other) (owns_of other new)
+    go true is = subst (AllByRecursion (P other)) (sym is) tt
+    go false is = subst (AllByRecursion (P other)) (sym is) (holds other)
 
-pub put_recalls : (s : State) (name : List ℕ) (os : List r.Own) (old new : Owns) → IsPut name os old new → RecallsOwns s old → AllByRecursion (HasOwn s name) os → RecallsOwns s new
-put_recalls s name os old new put recalls all other = go (bytes_eq name other) refl (put other)
+put_holds : (P : List ℕ → r.Own → Type 0) (name : List ℕ) (os : List r.Own) (old new : Owns) → IsPut name os old new → HoldsOwns P old → AllByRecursion (P name) os → HoldsOwns P new
+put_holds P name os old new put holds all other = go (bytes_eq name other) refl (put other)
   where
-    go : (b : Bool) → bytes_eq name other ≡ b → owns_of other new ≡ cond b os (owns_of other old) → AllByRecursion (HasOwn s other) (owns_of other new)
-    go true same is = subst (AllByRecursion (HasOwn s other)) (sym is) (subst (λ (n : List ℕ). AllByRecursion (HasOwn s n) os) ((bytes_eq-Decides name other).0 same) all)
-    go false same is = subst (AllByRecursion (HasOwn s other)) (sym is) (recalls other)
+    go : (b : Bool) → bytes_eq name other ≡ b → owns_of other new ≡ cond b os (owns_of other old) → AllByRecursion (P other) (owns_of other new)
+    go true same is = subst (AllByRecursion (P other)) (sym is) (subst (λ (n : List ℕ). AllByRecursion (P n) os) ((bytes_eq-Decides name other).0 same) all)
+    go false same is = subst (AllByRecursion (P other)) (sym is) (holds other)
 
 -- without the own parts of its game, what is remembered before a change is right after it
 pub left_after : (c : Change) (s : State) (old new : Owns) → IsLeft c.game old new → RecallsOwns s old → RecallsOwns (state_after c s) new
@@ -188,7 +188,7 @@ pub letter_recalls : {X E : Type 0} (did : Result X E) (c : Change) (s : State) 
     → RecallsOwns (state_after c s) old → AllByRecursion (HasOwn s c.game) os → RecallsOwns (state_after c s) new
 letter_recalls did c s name is test os reached short old new own reaches passes ok err recalls all =
     either_way did ok err
-    (λ put. put_recalls (state_after c s) name short old new put recalls (subst (λ (n : List ℕ). AllByRecursion (HasOwn (state_after c s) n) short) (sym is) had))
+    (λ put. put_holds (HasOwn (state_after c s)) name short old new put recalls (subst (λ (n : List ℕ). AllByRecursion (HasOwn (state_after c s) n) short) (sym is) had))
     (λ same. subst (RecallsOwns (state_after c s)) (sym same) recalls)
   where
     had : AllByRecursion (HasOwn (state_after c s) c.game) short
@@ -212,16 +212,25 @@ noted_own name o old room left new taken os roomy took out put is other =
     go false differ here out = here ∙ out
 
 -- where memory is wanting
-pub not_noted : (s : State) (name : List ℕ) (old room left new : Owns) → room ≡ owns_with_room old → IsLeft name room left → new ≡ left → RecallsOwns s old → RecallsOwns s new
-not_noted s name old room left new roomy out same recalls =
-    subst (RecallsOwns s) (sym same) (left_recalls s name room left out (subst (RecallsOwns s) (sym roomy) (recalls_with_room s old recalls)))
-
-pub noted_recalls : (s : State) (name : List ℕ) (o : r.Own) (old new : Owns) → IsNoted name o old new → HasOwn s name o → RecallsOwns s old → RecallsOwns s new
-noted_recalls s name o old new noted has recalls =
-    put_recalls s name (owns_of name (owns_with_room old) ++ o ∷ []) (owns_with_room old) new put before (all_with (HasOwn s name) (owns_of name (owns_with_room old)) o (before name) has)
+pub not_noted : (name : List ℕ) (old room left new : Owns) → room ≡ owns_with_room old → IsLeft name room left → new ≡ left → MayForget old new
+not_noted name old room left new roomy out same other =
+    over (nat_le most_owns (many_owns old)) (bytes_eq name other) (owns_of other old) (ap (owns_of other) same ∙ out other ∙ ap (λ (ws : Owns). cond (bytes_eq name other) [] (owns_of other ws)) roomy ∙ ap (cond (bytes_eq name other) []) (made (nat_le most_owns (many_owns old))))
   where
-    before : RecallsOwns s (owns_with_room old)
-    before = recalls_with_room s old recalls
+    made : (b : Bool) → owns_of other (cond b [] old) ≡ cond b [] (owns_of other old)
+    made true = refl
+    made false = refl
+
+    over : {os : List r.Own} (b d : Bool) (had : List r.Own) → os ≡ cond d [] (cond b [] had) → (os ≡ had) ⊎ (os ≡ [])
+    over b true had is = inr is
+    over true false had is = inr is
+    over false false had is = inl is
+
+noted_holds : (P : List ℕ → r.Own → Type 0) (name : List ℕ) (o : r.Own) (old new : Owns) → IsNoted name o old new → P name o → HoldsOwns P old → HoldsOwns P new
+noted_holds P name o old new noted has holds =
+    put_holds P name (owns_of name (owns_with_room old) ++ o ∷ []) (owns_with_room old) new put before (all_with (P name) (owns_of name (owns_with_room old)) o (before name) has)
+  where
+    before : HoldsOwns P (owns_with_room old)
+    before = holds_with_room P old holds
 
     put : IsPut name (owns_of name (owns_with_room old) ++ o ∷ []) (owns_with_room old) new
     put other = go (bytes_eq name other) refl (noted other)
@@ -231,7 +240,39 @@ noted_recalls s name o old new noted has recalls =
         go true same is = is ∙ ap (λ (n : List ℕ). owns_of n (owns_with_room old) ++ o ∷ []) (sym ((bytes_eq-Decides name other).0 same))
         go false differ is = is
 
-pub learned_own : {X E : Type 0} (did : Result X E) (s : State) (name : List ℕ) (power : ℕ) (o : r.Own) (old new : Owns) → OnOk did (IsNoted name o old new) → OnErr did ((s : State) → RecallsOwns s old → RecallsOwns s new)
+-- what is forgotten breaks nothing
+forgotten_holds : (P : List ℕ → r.Own → Type 0) (old new : Owns) → MayForget old new → HoldsOwns P old → HoldsOwns P new
+forgotten_holds P old new forgets holds name = go (forgets name)
+  where
+    go : (owns_of name new ≡ owns_of name old) ⊎ (owns_of name new ≡ []) → AllByRecursion (P name) (owns_of name new)
+    go (inl is) = subst (AllByRecursion (P name)) (sym is) (holds name)
+    go (inr is) = subst (AllByRecursion (P name)) (sym is) tt
+
+learned_holds : {X E : Type 0} (did : Result X E) (P : List ℕ → r.Own → Type 0) (name : List ℕ) (o : r.Own) (old new : Owns) → OnOk did (IsNoted name o old new) → OnErr did (MayForget old new)
+    → P name o → HoldsOwns P old → HoldsOwns P new
+learned_holds did P name o old new noted not has holds =
+    either_way did noted not (λ noted. noted_holds P name o old new noted has holds) (λ forgets. forgotten_holds P old new forgets holds)
+
+pub learned_own : {X E : Type 0} (did : Result X E) (s : State) (name : List ℕ) (power : ℕ) (o : r.Own) (old new : Owns) → OnOk did (IsNoted name o old new) → OnErr did (MayForget old new)
     → Some o ≡ own_at name power s → RecallsOwns s old → RecallsOwns s new
-learned_own did s name power o old new noted not is recalls =
-    either_way did noted not (λ noted. noted_recalls s name o old new noted (has_own s name power o (sym is)) recalls) (λ stays. stays s recalls)
+learned_own did s name power o old new noted not is = learned_holds did (HasOwn s) name o old new noted not (has_own s name power o (sym is))
+
+-- ---- none with a long reply
+
+pub learned_short : {X E : Type 0} (did : Result X E) (name : List ℕ) (o : r.Own) (old new : Owns) → OnOk did (IsNoted name o old new) → OnErr did (MayForget old new)
+    → is_short o.kept ≡ true → AreShort old → AreShort new
+learned_short did name o old new noted not is = learned_holds did (λ name o. is_short o.kept ≡ true) name o old new noted not is
+
+pub letter_short : {X E : Type 0} (did : Result X E) (name : List ℕ) (reached short : List r.Own) (old new : Owns) → short ≡ filter (λ o. is_short o.kept) reached
+    → OnOk did (IsPut name short old new) → OnErr did (new ≡ old) → AreShort old → AreShort new
+letter_short did name reached short old new passes ok err are =
+    either_way did ok err (λ put. put_holds (λ name o. is_short o.kept ≡ true) name short old new put are (subst (AllByRecursion (λ o. is_short o.kept ≡ true)) (sym passes) (all_pass (λ o. is_short o.kept) reached)))
+    (λ same. subst AreShort (sym same) are)
+  where
+    all_pass : (test : r.Own → Bool) (os : List r.Own) → AllByRecursion (λ o. test o ≡ true) (filter test os)
+    all_pass test [] = tt
+    all_pass test (o ∷ os) = over (test o) refl (all_pass test os)
+      where
+        over : (b : Bool) → test o ≡ b → AllByRecursion (λ o. test o ≡ true) (filter test os) → AllByRecursion (λ o. test o ≡ true) (cond b (o ∷ filter test os) (filter test os))
+        over true is more = (is, more)
+        over false is more = more

@@ -1,5 +1,5 @@
 -- What is remembered of seats.
-use Rattle.std.specs.Prelude.{◌≡◌, ◌==◌, ◌+◌, ℕ, Bool, true, false, List, [], ◌∷◌, Option, None, Some, length, nat_le, bytes_eq, unwrap_or, if◌then◌else◌}
+use Rattle.std.specs.Prelude.{◌≡◌, ◌==◌, ◌+◌, ◌⊎◌, ℕ, Bool, true, false, List, [], ◌∷◌, Option, None, Some, length, nat_le, bytes_eq, unwrap_or, if◌then◌else◌}
 use Rattle.std.specs.List.{AllByRecursion}
 use Rattle.std.specs.Map.{lookup}
 use Rattle.dip_desk_state.specs.Keyed.{at}
@@ -22,9 +22,17 @@ own_among power os = at (λ a b. a == b) (λ o. o.power) power os
 abbrev pub HasOwn : State → List ℕ → Own → Type 0
 HasOwn s name o = own_at name o.power s ≡ Some o
 
--- each own part that is remembered is the one that a state has
+-- each own part that is remembered meets a condition, which the name of its game is given too
+abbrev pub HoldsOwns : (List ℕ → Own → Type 0) → Owns → Type 0
+HoldsOwns P ws = (name : List ℕ) → AllByRecursion (P name) (owns_of name ws)
+
+-- each is the one that a state has
 abbrev pub RecallsOwns : State → Owns → Type 0
-RecallsOwns s ws = (name : List ℕ) → AllByRecursion (HasOwn s name) (owns_of name ws)
+RecallsOwns s = HoldsOwns (HasOwn s)
+
+-- of each game all that was remembered still is, or nothing
+abbrev pub MayForget : Owns → Owns → Type 0
+MayForget old new = (name : List ℕ) → (owns_of name new ≡ owns_of name old) ⊎ (owns_of name new ≡ [])
 
 -- so many own parts are remembered at most
 abbrev pub most_owns : ℕ
@@ -47,6 +55,10 @@ most_reply = 4096
 abbrev pub is_short : Option Kept → Bool
 is_short None = true
 is_short (Some k) = nat_le (length k.reply) most_reply
+
+-- each that is remembered keeps a reply of them, or none
+abbrev pub AreShort : Owns → Type 0
+AreShort = HoldsOwns (λ name o. is_short o.kept ≡ true)
 
 -- whether an effect changes no own part but its author's, or is a paper
 abbrev pub leaves_owns_known : Effect → Bool

@@ -4,7 +4,7 @@ ghost use Rattle.std.specs.List.{AllByRecursion};
 ghost use Rattle.dip_desk_state.specs.ChangeRows as desk_rows;
 ghost use Rattle.dip_desk_state.specs.Rows as rows;
 ghost use Rattle.dip_desk_state.specs.State.{State, is_seat, own_at, own_effect, state_after};
-ghost use Rattle.dip_store_memory.specs.Owns.{HasOwn, RecallsOwns, leaves_owns_known, is_short, many_owns, most_owns, own_among, own_after, owns_of, owns_with_room, papered};
+ghost use Rattle.dip_store_memory.specs.Owns.{AreShort, HasOwn, MayForget, RecallsOwns, leaves_owns_known, is_short, many_owns, most_owns, own_among, own_after, owns_of, owns_with_room, papered};
 
 use dip_desk_state::{Author, Change, Effect, Own, copy_standings};
 use dip_map::Power;
@@ -231,7 +231,7 @@ impl SeenOwns {
             ≡ (if bytes_eq game.now other
             then owns_of other (owns_with_room self.old) ++ rows.own own.now ∷ []
             else owns_of other (owns_with_room self.old))) }
-        ensures err { OnErr result ((s : State) → RecallsOwns s self.old → RecallsOwns s self.new) }
+        ensures err { OnErr result (MayForget self.old self.new) }
     {
         let copy = own.copy(alloc)?;
         self.make_room();
@@ -243,8 +243,9 @@ impl SeenOwns {
     /// Remembers what a look found of a seat. Where memory is wanting for it, or where its kept reply is too long, it isn't
     /// remembered, and that is no fault.
     pub fn learn(&mut self, alloc: Global, game: &str, found: &Option<Own>)
-        ensures { (s : State) (power : ℕ) → RecallsOwns s self.old
+        ensures recalls { (s : State) (power : ℕ) → RecallsOwns s self.old
             → option_map rows.own found.now ≡ own_at game.now power s → RecallsOwns s self.new }
+        ensures short { AreShort self.old → AreShort self.new }
     {
         let Some(own) = found else {
             return;
@@ -262,10 +263,12 @@ impl SeenOwns {
         mut owns: Vec<Own>,
     ) -> Result<(), AllocError>
         requires { leaves_owns_known (desk_rows.effect change.now.effect) ≡ true }
-        ensures { (s : State) → RecallsOwns (state_after (desk_rows.change change.now) s) self.old
+        ensures recalls { (s : State)
+            → RecallsOwns (state_after (desk_rows.change change.now) s) self.old
             → AllByRecursion (HasOwn s (desk_rows.change change.now).game)
             (each (λ o. rows.own o) owns.items)
             → RecallsOwns (state_after (desk_rows.change change.now) s) self.new }
+        ensures short { AreShort self.old → AreShort self.new }
     {
         reach_owns(alloc, change, &mut owns)?;
         let short = short_owns(owns);
@@ -278,10 +281,12 @@ impl SeenOwns {
     /// Remembers again, after a change that is made, what it leaves of the own parts of its game that were taken out before it:
     /// none, where it is press, or changes a secret. Where memory is wanting for them they aren't remembered, and that is no fault.
     pub fn keep(&mut self, alloc: Global, change: &Change, owns: Vec<Own>)
-        ensures { (s : State) → RecallsOwns (state_after (desk_rows.change change.now) s) self.old
+        ensures recalls { (s : State)
+            → RecallsOwns (state_after (desk_rows.change change.now) s) self.old
             → AllByRecursion (HasOwn s (desk_rows.change change.now).game)
             (each (λ o. rows.own o) owns.items)
             → RecallsOwns (state_after (desk_rows.change change.now) s) self.new }
+        ensures short { AreShort self.old → AreShort self.new }
     {
         if leaves_owns_known(&change.effect) {
             let _ = self.put_after(alloc, change, owns);

@@ -15,7 +15,7 @@ use crate::ticks::tick_of;
 use sqlite::types::ToSql;
 use sqlite::{Alter, Error, Transaction, params};
 
-/// The master's row of a new desk, of version 2.
+/// Inserts the master's row of a new desk, of version 2.
 pub fn add_desk<S: Alter>(
     tx: &mut Transaction<'_, S>,
     map: &[u8],
@@ -35,7 +35,7 @@ pub fn add_desk<S: Alter>(
     )
 }
 
-/// A game after the others. No other has its name, where that goes well.
+/// Inserts a game after the others. No other has its name, where that goes well.
 pub fn add_game<S: Alter>(tx: &mut Transaction<'_, S>, game: &GameRow<'_>) -> Result<usize, Error>
     requires { game.now.due < 2 ^ 63 }
     ensures same_reference { tx.new.conn.ghost_name ≡ tx.old.conn.ghost_name }
@@ -58,7 +58,7 @@ pub fn add_game<S: Alter>(tx: &mut Transaction<'_, S>, game: &GameRow<'_>) -> Re
     )
 }
 
-/// A seat that nobody has used yet.
+/// Inserts a seat that nobody has used yet.
 pub fn add_seat<S: Alter>(
     tx: &mut Transaction<'_, S>,
     game: &str,
@@ -130,7 +130,7 @@ pub fn add_pending<S: Alter>(
     )
 }
 
-/// Three standing orders of a seat, one after the other.
+/// Inserts three standing orders of a seat, one after the other.
 pub fn add_three_pending<S: Alter>(
     tx: &mut Transaction<'_, S>,
     game: &str,
@@ -197,7 +197,7 @@ pub fn add_paper<S: Alter>(
     )
 }
 
-/// The ballot of a seat. No other has its game and power, where that goes well.
+/// Inserts the ballot of a seat. No other has its game and power, where that goes well.
 pub fn add_ballot<S: Alter>(
     tx: &mut Transaction<'_, S>,
     game: &str,
@@ -220,7 +220,7 @@ pub fn add_ballot<S: Alter>(
     )
 }
 
-/// The choice of a game: whether it has the option INTENT. No other is the game's, where that goes well.
+/// Inserts the choice of a game: whether it has the option INTENT. No other is the game's, where that goes well.
 pub fn add_choice<S: Alter>(
     tx: &mut Transaction<'_, S>,
     game: &str,

@@ -13,7 +13,7 @@ use crate::ticks::tick_of;
 use sqlite::types::ToSql;
 use sqlite::{Alter, Error, Transaction, params};
 
-/// The master's last letter.
+/// Notes the number, the digest and the reply of the master's last letter in his row.
 pub fn note_desk<S: Alter>(
     tx: &mut Transaction<'_, S>,
     letter: &LastLetter<'_>,
@@ -28,7 +28,7 @@ pub fn note_desk<S: Alter>(
     )
 }
 
-/// A seat's row, but for its keys and its vote.
+/// Writes a seat's row anew, but for its keys and its vote.
 pub fn renew_seat<S: Alter>(
     tx: &mut Transaction<'_, S>,
     game: &str,
@@ -54,7 +54,7 @@ pub fn renew_seat<S: Alter>(
     )
 }
 
-/// What the seat votes for, by the text of its ballot.
+/// Notes what the seat votes for, by the text of its ballot.
 pub fn note_ballot<S: Alter>(
     tx: &mut Transaction<'_, S>,
     game: &str,
@@ -71,7 +71,7 @@ pub fn note_ballot<S: Alter>(
     )
 }
 
-/// No vote in any seat's row: each is on a ballot.
+/// Takes the votes out of all seats' rows: each is on a ballot.
 pub fn clear_votes<S: Alter>(tx: &mut Transaction<'_, S>) -> Result<usize, Error>
     ensures same_reference { tx.new.conn.ghost_name ≡ tx.old.conn.ghost_name }
     ensures does { Does (on_seats voteless) always
@@ -95,7 +95,7 @@ pub fn set_version<S: Alter>(tx: &mut Transaction<'_, S>) -> Result<usize, Error
     tx.execute("UPDATE desk SET version = 2 WHERE id = 1", &[])
 }
 
-/// How many items the seat's inbox has.
+/// Notes how many items the seat's inbox has.
 pub fn count_item<S: Alter>(
     tx: &mut Transaction<'_, S>,
     game: &str,
@@ -112,7 +112,7 @@ pub fn count_item<S: Alter>(
     )
 }
 
-/// The digest of the seat's secret.
+/// Puts another digest in place of that of the seat's secret.
 pub fn replace_digest<S: Alter>(
     tx: &mut Transaction<'_, S>,
     game: &str,
@@ -129,7 +129,7 @@ pub fn replace_digest<S: Alter>(
     )
 }
 
-/// All but the name of the game of that name.
+/// Writes all of a game's row anew but its name.
 pub fn renew_game<S: Alter>(tx: &mut Transaction<'_, S>, game: &GameRow<'_>) -> Result<usize, Error>
     requires { game.now.due < 2 ^ 63 }
     ensures same_reference { tx.new.conn.ghost_name ≡ tx.old.conn.ghost_name }

@@ -4,6 +4,7 @@ ghost use Rattle.sqlite.specs.Order.{Row as Values};
 
 use sqlite::Row;
 
+/// The row of an answer that has one or none.
 pub fn only(mut rows: Vec<Row>) -> Option<Row>
     ensures { (o : Option Values) → rows.items ≡ option_to_list o → result ≡ o }
 {

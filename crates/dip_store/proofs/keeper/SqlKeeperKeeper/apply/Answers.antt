@@ -22,7 +22,7 @@ returns-in-Ok g c =
     let has = knows g.S.Store m c.args.self.now it (c.own_is_found.ensures m c.facts.ensures) fits.0.author c.known_author-known.result known in
     changes_well g.S.Store m c.args.self.now it c.make.new.conn (c.changes_are_made.ensures m c.facts.ensures) fits c.has_widths.ensures c.forget_replaced-was_seen.new.self (heeded it c.args.self.now.seen c.forget_replaced-was_seen.new.self c.forget_replaced-was_seen.ensures.left) c.keep.new.self c.note_after.new.self _ _ c.in-Ok.field-0 c.has_texts.ensures (c.tables_stay_legible.ensures m)
     (makes_when g.S.Store _ _ _ _ _ _ _ _ has c.in-Ok.ensures.makes) (λ keeps. c.in-Ok.ensures.kept (has keeps)) (λ keeps. c.in-Ok.ensures.place (has keeps))
-    (made_recalls it c.as_str.result.now c.as_str.ensures.value c.args.self.now.owns c.take-owns.new.self c.keep.new.self (owned c.take-owns.result) c.take-owns.ensures.taken c.take-owns.ensures.left c.keep.ensures)
+    (made_recalls it c.as_str.result.now c.as_str.ensures.value c.args.self.now.owns c.take-owns.new.self c.keep.new.self (owned c.take-owns.result) c.take-owns.ensures.taken c.take-owns.ensures.left c.keep.ensures.recalls)
     (λ s before apart. c.note_after.ensures s (idle_after it c.args.self.now.idle c.stir_author.new.self c.stir_author.ensures s before) apart)
     c.note_after-in-Ok.new.self (λ s before holds apart. c.note_after-in-Ok.ensures s holds apart (was_there it s c.args.self.now.seen c.forget_replaced-was_seen.result c.forget_replaced-was_seen.ensures.was before))
 

@@ -32,7 +32,7 @@ returns-in-Ok g c =
     (λ kept clean. c.in-Ok.ensures.value kept.0 clean
     (λ so. subst (λ (o : Option Own). IfSome o IsIdle) (is kept.1.coded) (kept.4 name c.args.power (sym c.is_idle-idle.ensures ∙ so)))
     ∙ sym (is kept.1.coded))
-    (λ recalls is. (recalls.0, c.learn.ensures (said_by m (state g.S.Store c.args.self.now.conn).now.trees) c.args.power recalls.1 is, recalls.2))
+    (λ recalls is. (recalls.0, c.learn.ensures.recalls (said_by m (state g.S.Store c.args.self.now.conn).now.trees) c.args.power recalls.1 is, recalls.2))
 
 pub returns-in-Err : goal.returns-in-Err
 returns-in-Err g c =

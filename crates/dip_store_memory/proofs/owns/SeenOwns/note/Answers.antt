@@ -1,4 +1,4 @@
-use Rattle.std.proofs.Common.{◌∙◌, ap, List, map, refl}
+use Rattle.std.proofs.Common.{◌∙◌, ap, inl, List, map, refl}
 use Rattle.std.proofs.lemmas.Result.{on_err_weaker, on_ok_weaker}
 use Rattle.dip_desk_state.specs.Rows as rows
 use Rattle.dip_desk_state.specs.declared.records.Own.{Own}
@@ -16,10 +16,13 @@ returns-clause-ok c =
 pub returns-clause-err : goal.returns-clause-err
 returns-clause-err c =
     on_err_weaker c.put.result
-    (λ same s. not_noted s c.args.game.now c.args.self.now c.make_room.new.self c.take-owns.new.self c.put.new.self c.make_room.ensures c.take-owns.ensures.left same)
+    (λ same. not_noted c.args.game.now c.args.self.now c.make_room.new.self c.take-owns.new.self c.put.new.self c.make_room.ensures c.take-owns.ensures.left same)
     c.put.ensures.err
 
 pub returns-in_err-push_exact-clause-err : goal.returns-in_err-push_exact-clause-err
 returns-in_err-push_exact-clause-err c =
     on_err c.from_residual-in_err-push_exact.result
-    (λ s. not_noted s c.args.game.now c.args.self.now c.make_room.new.self c.take-owns.new.self c.take-owns.new.self c.make_room.ensures c.take-owns.ensures.left refl)
+    (not_noted c.args.game.now c.args.self.now c.make_room.new.self c.take-owns.new.self c.take-owns.new.self c.make_room.ensures c.take-owns.ensures.left refl)
+
+pub returns-in_err-copy-clause-err : goal.returns-in_err-copy-clause-err
+returns-in_err-copy-clause-err c = on_err c.from_residual.result (λ name. inl refl)

@@ -17,9 +17,12 @@ use Rattle.dip_store.specs.Causes.{has_faulted}
 use Rattle.dip_store.specs.Opening.{IsDesk, IsMadeForText, IsNowOf, IsShutBy, IsShutFor}
 use Rattle.dip_store.specs.StoreFault.{StoreFault}
 use Rattle.dip_judge_words.specs.declared.args.Args.{Args}
+use Rattle.dip_judge_words.specs.declared.args.Args.TheVariants.{Init, Letters, Stored, Serve, Report, Check, Explain, Version}
+use Rattle.dip_judge_words.specs.declared.faults.UsageFault.{UsageFault}
+use Rattle.dip_judge_runs.specs.declared.map_file.NoMap.{NoMap}
 use Rattle.dip_judge_commands.proofs.StoredLemmas.{some_fault}
 use Rattle.clap.specs.Words.{Text}
-use Rattle.dip_judge_commands.specs.Asked.{IfAsked, IsAskedFor}
+use Rattle.dip_judge_commands.specs.Asked.{Fails, IfAsked, IsAskedFor, IsFailed}
 use Rattle.dip_judge_commands.specs.Files.{FromHeld, HasFaults, HeldDesk, IsFoundIn, LeavesStore, StopsStore, TellsOfFile, TellsStore, WasMadeFor, WasOpened, WasShutFor}
 use Rattle.dip_judge_commands.specs.Lasting.{HeldLawful, Lasts, LastsAs, LastsFrom, LastsServing}
 use Rattle.dip_judge_commands.specs.Stores.{TellsOfStore}
@@ -137,3 +140,40 @@ if_asked standard words P NoGame asked = asked
 if_asked standard words P Negative asked = asked
 if_asked standard words P (Checking fault) asked = asked
 if_asked standard words P (Papers fault) asked = asked
+
+-- a command fails neither by the words nor for want of a map
+module _ (m : Chart) (known left before after : Option (List ℕ)) where
+  no_usage : (a : Args) (fault : UsageFault) → Fails m known left before after a (Usage fault) → ⊥
+  no_usage (Init store master file) fault fails = fails.0
+  no_usage (Letters master file) fault fails = fails
+  no_usage (Stored store file) fault fails = fails
+  no_usage (Serve store port count file) fault fails = fails.0
+  no_usage (Report store game file) fault fails = fails.0
+  no_usage (Check file) fault fails = fails
+  no_usage (Explain paper file) fault fails = fails
+  no_usage Version fault fails = fails.1
+
+  no_map : (a : Args) (fault : NoMap) → Fails m known left before after a (Map fault) → ⊥
+  no_map (Init store master file) fault fails = fails.0
+  no_map (Letters master file) fault fails = fails
+  no_map (Stored store file) fault fails = fails
+  no_map (Serve store port count file) fault fails = fails.0
+  no_map (Report store game file) fault fails = fails.0
+  no_map (Check file) fault fails = fails
+  no_map (Explain paper file) fault fails = fails
+  no_map Version fault fails = fails.1
+
+-- so what is asked for fails as it says
+pub failed_as : (standard : List ℕ) (words : List Text) (known left before after : Option (List ℕ)) (f : Failure) → IsAskedFor standard words (λ a m. Fails m known left before after a f)
+    → IsFailed standard words known left before after f
+failed_as standard words known left before after (Usage fault) it = absurd (no_usage it.1 known left before after it.0 fault it.3)
+failed_as standard words known left before after (Map fault) it = absurd (no_map it.1 known left before after it.0 fault it.3)
+failed_as standard words known left before after (Store fault) it = it
+failed_as standard words known left before after NoMemory it = it
+failed_as standard words known left before after Listen it = it
+failed_as standard words known left before after (Run fault) it = it
+failed_as standard words known left before after (Serving fault) it = it
+failed_as standard words known left before after NoGame it = it
+failed_as standard words known left before after Negative it = it
+failed_as standard words known left before after (Checking fault) it = it
+failed_as standard words known left before after (Papers fault) it = it

@@ -6,19 +6,22 @@ use Rattle.sqlite.specs.Effect.{Database}
 use Rattle.sqlite.specs.Tree.{Trees}
 use Rattle.sqlite.specs.Store.{Ghosts}
 use Rattle.sqlite.specs.Held.{Held, state}
+use Rattle.sqlite.specs.State as sql
 use Rattle.dip_map.specs.Charts.{Chart, IsMap}
 use Rattle.dip_store_tables.specs.LegibleLaws.{NewTablesAreLegible}
 use Rattle.dip_store_tables.specs.Legible.{AreOurs}
 use Rattle.dip_desk_state.specs.State.{State}
 use Rattle.dip_store_tables.specs.Laws.{NewTablesAreNew}
 use Rattle.dip_store_tables.specs.Reading.{state_of}
+use Rattle.dip_store_tables.specs.Counting.{AreCounted}
 use Rattle.dip_store_tables.specs.Writing.{new_tables}
 use Rattle.dip_store_sql.specs.Calls.{IsKept, Selects, WasKept, is_honest, does_show, tables_in}
 use Rattle.dip_store_sql.specs.Causes.{has_faulted}
+use Rattle.dip_store_sql.specs.Creating.{no_schema}
 use Rattle.dip_store_sql.specs.Rows.{tables_of}
 use Rattle.dip_store_sql.proofs.Parts.{went}
 use Rattle.dip_store_schema.specs.Desk.{DeskSays}
-use Rattle.dip_store_schema.specs.Founding.{Keeps}
+use Rattle.dip_store_schema.specs.Founding.{Founds, Keeps}
 use Rattle.dip_store_schema.specs.Known.{has_table}
 use Rattle.dip_store_schema.specs.Renewing.{IsOldStore, old_said_by}
 use Rattle.dip_store_schema.specs.declared.faults.StoreFault.{StoreFault}
@@ -26,7 +29,7 @@ use Rattle.dip_store_schema.proofs.Ours.{old_has_none, ours_has_ballots}
 use Rattle.dip_store_memory.proofs.Idling.{recalls_no_idle}
 use Rattle.dip_store_memory.proofs.Owning.{recalls_no_owns}
 use Rattle.dip_store_memory.proofs.Seeing.{recalls_none}
-use Rattle.dip_store.specs.Opening.{AreOf, HasOnly, Holds, IsDesk, IsNowOf, IsSettled, IsSameOrRenewed, Opens, OpensStore, Says, StaysShut, StoreEnds}
+use Rattle.dip_store.specs.Opening.{AreOf, HasOnly, Holds, IsDesk, IsNowOf, IsSettled, IsSameOrRenewed, Opens, OpensStore, Says, StaysShut, StoreEnds, new_desk}
 use Rattle.dip_desk_keeper.specs.Keeping.{Ends, IsOpen}
 use Rattle.dip_store.specs.Stored.{AreStored, IsStore, IsStoreOf, book, fresh_keeper, said_by}
 use Rattle.dip_store.specs.declared.keeper.SqlKeeper.{SqlKeeper}
@@ -78,6 +81,24 @@ module _ (m : Chart) (db : Database) where
   says_old s none (inl own) = absurd (none_new none own.0)
   says_old s none (inr own) = own
 
+-- in an empty store a crash leaves the new tables whole, as a store that says the new desk
+pub founded : (m : Chart) → IsMap m → NewTablesAreNew m → NewTablesAreLegible → (map_sum digest : List ℕ) → length digest ≡ 32 → (old : sql.State) (db : Trees) → old.now.schema ≡ no_schema
+    → Founds (new_tables map_sum digest) old db → AreOf (IsStoreOf m (new_desk digest)) db
+founded m map law legible map_sum digest long old db empty founds =
+    let has = founds.1 empty in
+    let new = law map_sum digest in (
+      founds.0,
+      sym founds.2,
+      (
+        record {
+          good = has.0;
+          counted = subst AreCounted (sym has.1) (record { papers = tt; items = tt });
+          ours = subst (AreOurs m) (sym has.1) (record { map = map; coded = new.coded; written = new.written long; legible = legible map_sum digest });
+        },
+        ap (state_of m) has.1 ∙ new.says,
+      ),
+    )
+
 -- what holds of each fault by another name
 pub err_turned : {X E : Type 0} (P Q : E → Type 0) (r : Result X E) → ((e : E) → P e → Q e) → IfErr r P → IfErr r Q
 err_turned P Q (Ok x) turn holds = tt
@@ -101,7 +122,7 @@ module _ {S : Type 0} (g : Ghosts S) (m : Chart) (alloc : Global) (conn : Held S
       there_now kept shows db may = last shows.1 db may ∙ ap (λ (d : Database). d.trees) (sym kept.settled)
 
   pub opens_new : (map_sum digest : List ℕ) → IsMap m → NewTablesAreNew m → NewTablesAreLegible → length digest ≡ 32 → Keeps g conn (new_tables map_sum digest) → does_show g conn
-      → Opens g m (record { desk = record { digest = digest; kept = None }; games = [] }) (fresh_keeper alloc conn)
+      → Opens g m (new_desk digest) (fresh_keeper alloc conn)
   opens_new map_sum digest map law legible long it shows =
       let new = law map_sum digest in
       let ours : AreOurs m (new_tables map_sum digest) = record { map = map; coded = new.coded; written = new.written long; legible = legible map_sum digest } in

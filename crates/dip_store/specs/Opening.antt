@@ -8,10 +8,7 @@ use Rattle.sqlite.specs.Held.{Held, state}
 use Rattle.sqlite.specs.Tree.{Trees}
 use Rattle.dip_map.specs.Charts.{Chart}
 use Rattle.dip_desk_state.specs.State.{State}
-use Rattle.dip_store_tables.specs.Tables.{Tables}
-use Rattle.dip_store_tables.specs.Writing.{new_tables}
 use Rattle.dip_store_schema.specs.Desk.{DeskSays}
-use Rattle.dip_store_schema.specs.Founding.{Founds}
 use Rattle.dip_store_schema.specs.Known.{HasOldTables, HasOurTables}
 use Rattle.dip_store_schema.specs.Refusing.{IsOutage, IsRefused, IsRefusedAs}
 use Rattle.dip_store_schema.specs.Renewing.{IsLeftOld, IsOldStore, old_said_by}
@@ -92,10 +89,15 @@ pub record Opens {S : Type 0} (g : Ghosts S) (m : Chart) (s : State) (k : SqlKee
   pub only : (left : State) → (book g).may_leave m k left → left ≡ s
   pub again : (book g).again m k
 
--- what an open after a crash may find of a store in which tables are made: what it might have found before, or those tables, whole
-abbrev pub MayFound : {S : Type 0} → Ghosts S → Tables → Held S → Held S → Type 0
-MayFound g t old new = is_honest g new → (db : Trees) → (state g new).may_leave db
-    → (state g old).may_leave db ⊎ Founds t (state g old) db
+-- what an open after a crash may find of a store in which a desk is made: what it might have found before, or, of an empty one, a
+-- store that says the new desk
+abbrev pub MayFound : {S : Type 0} → Ghosts S → Chart → State → Held S → Held S → Type 0
+MayFound g m s old new = is_honest g new → (db : Trees) → (state g new).may_leave db
+    → (state g old).may_leave db ⊎ (((state g old).now.schema ≡ no_schema) × AreOf (IsStoreOf m s) db)
+
+-- a desk without a game, whose master's secret has this digest
+abbrev pub new_desk : List ℕ → State
+new_desk digest = record { desk = record { digest = digest; kept = None }; games = [] }
 
 -- a store that can be read from: no change of it is under way, so all of it is committed, and
 -- statements have no limit
@@ -193,7 +195,7 @@ SaysText g text store = DeskSays 2 (sha256 text) (tables_of (state g store).now.
 -- how a desk's tables are made in a store, whose text is this map's and whose master's digest is this one
 pub record MakesStore {S : Type 0} (g : Ghosts S) (m : Chart) (text digest : List ℕ) (store : Held S)
     (result : Result (SqlKeeper S) (StoreFault × Held S)) : Type 0 where
-  pub opened : IfOk result (λ k. is_honest g k.conn → Opens g m (record { desk = record { digest = digest; kept = None }; games = [] }) k)
+  pub opened : IfOk result (λ k. is_honest g k.conn → Opens g m (new_desk digest) k)
   pub told : IfOk result (λ k. (book g).faults k ≡ 0)
   pub made : IfOk result (λ k. is_honest g k.conn → SaysText g text k.conn)
   pub empty : IfOk result (λ _. (state g store).now.schema ≡ no_schema)
@@ -203,4 +205,4 @@ pub record MakesStore {S : Type 0} (g : Ghosts S) (m : Chart) (text digest : Lis
   pub caused : IfErr result (λ e. is_honest g e.1 → does_show g store → e.0 ≡ faults.Disk → IsTrue store.in_transaction ⊎ has_faulted g store e.1)
   pub same : IfErr result (λ e. does_show g e.1 → (state g e.1).committed ≡ (state g store).committed)
   pub fair : is_honest g (store_in result) → is_honest g store
-  pub crash : MayFound g (new_tables (sha256 text) digest) store (store_in result)
+  pub crash : MayFound g m (new_desk digest) store (store_in result)

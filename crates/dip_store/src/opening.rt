@@ -47,7 +47,7 @@ impl<S: Alter> SqlKeeper<S> {
     /// `OtherSchema` exactly where the store has a table, or anything else that a schema names; `Memory`; `Disk` also for a store with
     /// a transaction under way. The store is handed back, and what it has committed is as it was.
     ///
-    /// A crash leaves what it might have left before, or the tables of the new desk, whole.
+    /// A crash leaves what it might have left before, or a store that says the new desk.
     pub fn create(
         alloc: Global,
         store: Connection<S>,

@@ -136,6 +136,9 @@ left_holds P name old new left holds other = go (bytes_eq name other) (left othe
     go true is = subst (AllByRecursion (P other)) (sym is) tt
     go false is = subst (AllByRecursion (P other)) (sym is) (holds other)
 
+pub left_recalls : (s : State) (name : List ℕ) (old new : Owns) → IsLeft name old new → RecallsOwns s old → RecallsOwns s new
+left_recalls s = left_holds (HasOwn s)
+
 put_holds : (P : List ℕ → r.Own → Type 0) (name : List ℕ) (os : List r.Own) (old new : Owns) → IsPut name os old new → HoldsOwns P old → AllByRecursion (P name) os → HoldsOwns P new
 put_holds P name os old new put holds all other = go (bytes_eq name other) refl (put other)
   where

@@ -7,7 +7,7 @@ use Rattle.sqlite.specs.WalFiles.{image_at}
 use Rattle.dip_map.specs.declared.standard.TheConstants.{STANDARD}
 use Rattle.dip_judge_runs.specs.MapFiles.{IsMapOf}
 use Rattle.dip_judge_commands.specs.Files.{StopsStore}
-use Rattle.dip_judge_commands.proofs.FileLemmas.{if_asked}
+use Rattle.dip_judge_commands.proofs.FileLemmas.{failed_as, if_asked}
 use Rattle.dip_judge_commands.proofs.asked.do_as_asked.Goals as goal
 
 pub returns-in-Ok-read_map-clause-tells : goal.returns-in-Ok-read_map-clause-tells
@@ -62,3 +62,23 @@ returns-in-Ok-read_map-clause-stops g c =
       stops,
     ))
     c.do_asked.ensures.stops
+
+pub returns-in-Ok-read_map-clause-failed : goal.returns-in-Ok-read_map-clause-failed
+returns-in-Ok-read_map-clause-failed g c =
+    IfErr-weaker c.do_asked.result.0 _ _
+    (λ f fails. failed_as STANDARD.now (map (λ w. w.now) c.args.words.now) (g.R.Read.remaining c.args.reader.now) (g.R.Read.remaining c.do_asked.new.reader) (g.W.Write.contents c.args.writer.now) (g.W.Write.contents c.do_asked.new.writer)
+    f (
+      c.in-Ok.args,
+      c.in-Ok-read_map.map,
+      (
+        c.in-Ok.ensures.given,
+        c.in-Ok.ensures.checks,
+        (
+          c.text_said.result.now,
+          subst (λ (path : Option (List ℕ)). IsMapOf STANDARD.now path c.text_said.result.now c.in-Ok-read_map.map) c.map.ensures
+              (subst (λ (text : List ℕ). IsMapOf STANDARD.now (option_map (λ p. p.now) c.map.result) text c.in-Ok-read_map.map) (sym c.text_said.ensures) c.in-Ok-read_map.ensures.map),
+        ),
+      ),
+      fails,
+    ))
+    c.do_asked.ensures.failed

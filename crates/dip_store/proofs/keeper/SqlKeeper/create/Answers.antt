@@ -1,13 +1,15 @@
-use Rattle.std.proofs.Common.{rules, ◌≡◌, ◌⊎◌, ℕ, List, inr, refl, sym, subst, ◌∙◌}
+use Rattle.std.proofs.Common.{rules, ◌≡◌, ◌⊎◌, ℕ, List, inl, inr, refl, sym, subst, ◌∙◌}
 use Rattle.sha2.specs.Sha256.{sha256}
 use Rattle.sqlite.specs.Held.{Held, state}
 use Rattle.dip_store_sql.specs.Calls.{does_show}
 use Rattle.dip_store_sql.specs.Causes.{has_faulted}
 use Rattle.dip_store_sql.specs.Rows.{tables_of}
 use Rattle.dip_store_schema.specs.Desk.{DeskSays}
-use Rattle.dip_store_schema.specs.Founding.{Founds, IsNewStore}
-use Rattle.dip_store_tables.specs.Writing.{new_tables}
-use Rattle.dip_store.proofs.Opened.{new_desk_says, opens_new}
+use Rattle.dip_store_sql.specs.Creating.{no_schema}
+use Rattle.dip_store_schema.specs.Founding.{IsNewStore}
+use Rattle.dip_store.specs.Opening.{AreOf, new_desk}
+use Rattle.dip_store.specs.Stored.{IsStoreOf}
+use Rattle.dip_store.proofs.Opened.{founded, new_desk_says, opens_new}
 use Rattle.dip_store_schema.proofs.Refused.{open_blamed}
 use Rattle.dip_store.proofs.keeper.SqlKeeper.create.Goals as goal
 
@@ -39,12 +41,14 @@ returns-in-Ok g c = record {
   fair = search rules;
   crash =
       let h = c.set_step_limit.new.self in
-      let sum : c.sum.result ≡ sha256 c.args.map_text.now = search rules in
+      let empty = c.knows_none.ensures.value.0 c.if-not-knows_none.false in
       rw c.over.ensures
-      (λ clean db may. subst (λ (h : Held _). (state g.S.Store h).may_leave db ⊎ Founds (new_tables (sha256 c.args.map_text.now) c.args.digest.now) (state g.S.Store h) db)
+      (λ clean db may. subst (λ (h : Held _). (state g.S.Store h).may_leave db ⊎ (((state g.S.Store h).now.schema ≡ no_schema) × AreOf (IsStoreOf c.args.map.now (new_desk c.args.digest.now)) db))
       c.set_step_limit.ensures
-      (subst (λ (s : List ℕ). (state g.S.Store h).may_leave db ⊎ Founds (new_tables s c.args.digest.now) (state g.S.Store h) db) sum
-      (c.in-Ok.ensures.crash.crash clean db may)));
+      (elim (c.in-Ok.ensures.crash.crash clean db may) [
+        | inl before ↦ inl before
+        | inr founds ↦ inr (empty, founded c.args.map.now c.facts.ensures (c.new_tables_are_new.ensures c.args.map.now) c.new_tables_are_legible.ensures c.sum.result c.args.digest.now c.has_32.ensures (state g.S.Store h) db empty founds)
+      ]));
 }
 
 pub returns-in-Err : goal.returns-in-Err
@@ -65,5 +69,13 @@ returns-in-Err g c = record {
       inr (subst (λ (h : Held _). has_faulted g.S.Store h c.set_up_tables.new.conn) c.set_step_limit.ensures (open_blamed _ c.in-Err.error (c.in-Err.ensures.fails new there clean) (sym c.open_fault.ensures ∙ is)));
   same = search rules;
   fair = search rules;
-  crash = search rules;
+  crash =
+      let h = c.set_step_limit.new.self in
+      let empty = c.knows_none.ensures.value.0 c.if-not-knows_none.false in
+      λ clean db may. subst (λ (h : Held _). (state g.S.Store h).may_leave db ⊎ (((state g.S.Store h).now.schema ≡ no_schema) × AreOf (IsStoreOf c.args.map.now (new_desk c.args.digest.now)) db))
+      c.set_step_limit.ensures
+      (elim (c.in-Err.ensures.crash.crash clean db may) [
+        | inl before ↦ inl before
+        | inr founds ↦ inr (empty, founded c.args.map.now c.facts.ensures (c.new_tables_are_new.ensures c.args.map.now) c.new_tables_are_legible.ensures c.sum.result c.args.digest.now c.has_32.ensures (state g.S.Store h) db empty founds)
+      ]);
 }

@@ -26,11 +26,11 @@ use Rattle.dip_turn.specs.Phases.{follow, sequel}
 use Rattle.dip_turn.specs.Reports.{IsPlayed, Leaves, LeavesAdjusted, LeavesMoved, LeavesRetreated}
 use Rattle.dip_turn.specs.declared.report.Account.{Account}
 use Rattle.dip_turn.specs.declared.report.Account.TheVariants.{Movement as OfMovement, Retreats as OfRetreats, Adjustment as OfAdjustment}
-use Rattle.dip_turn.specs.declared.report.CentreLine.{CentreLine}
-use Rattle.dip_turn.specs.declared.report.Course.{Course}
+use Rattle.dip_turn.specs.CentreLine.{CentreLine}
+use Rattle.dip_turn.specs.Course.{Course}
 use Rattle.dip_turn.specs.declared.report.Report.{Report}
-use Rattle.dip_turn.specs.declared.report.RetreatLine.{RetreatLine}
-use Rattle.dip_turn.specs.declared.report.Waiver.{Waiver}
+use Rattle.dip_turn.specs.RetreatLine.{RetreatLine}
+use Rattle.dip_turn.specs.Waiver.{Waiver}
 use Rattle.dip_turn.specs.MovementLine.{MovementLine}
 use Rattle.dip_turn_papers.specs.Papers.{account_text, adjusted_lines, adjusted_with, centre_line, disorder_lines, lines_by_power, moved_lines, paper_text, retreated_lines, title, unit_line}
 use Rattle.dip_turn_papers.specs.declared.lines.Told.TheVariants.{Built, Removed, RemovedInDisorder}

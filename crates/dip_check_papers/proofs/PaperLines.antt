@@ -36,9 +36,9 @@ use Rattle.dip_turn.specs.Outcome.{Outcome}
 use Rattle.dip_turn.specs.Outcome.TheVariants.{Holds, Moves, Bounced, NoRoute, Given, Cut, Void, Convoys}
 use Rattle.dip_turn.specs.declared.report.Account.{Account}
 use Rattle.dip_turn.specs.declared.report.Account.TheVariants.{Movement as OfMovement, Retreats as OfRetreats, Adjustment as OfAdjustment}
-use Rattle.dip_turn.specs.declared.report.CentreLine.{CentreLine}
+use Rattle.dip_turn.specs.CentreLine.{CentreLine}
 use Rattle.dip_turn.specs.declared.report.Report.{Report}
-use Rattle.dip_turn.specs.declared.report.Waiver.{Waiver}
+use Rattle.dip_turn.specs.Waiver.{Waiver}
 use Rattle.dip_turn_papers.specs.Papers as t
 use Rattle.dip_turn_papers.specs.declared.lines.PaperLine.{PaperLine}
 use Rattle.dip_turn_papers.specs.declared.lines.Told.{Told}

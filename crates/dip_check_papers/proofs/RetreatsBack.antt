@@ -19,7 +19,7 @@ use Rattle.dip_orders.specs.declared.placed.PlacedOrder.{PlacedOrder}
 use Rattle.dip_orders.proofs.FindLaws.{find_passes}
 use Rattle.dip_orders.proofs.StandingLaws.{made_among, same_unit, unit_itself}
 use Rattle.dip_turn.specs.Retreating.{after_retreat, after_retreats, at_refuge, found_retreat, goal, is_for_dislodged, is_in, refuge, retreat_line, retreat_lines, retreat_order}
-use Rattle.dip_turn.specs.declared.report.RetreatLine.{RetreatLine}
+use Rattle.dip_turn.specs.RetreatLine.{RetreatLine}
 use Rattle.dip_turn_papers.specs.Papers.{retreated_lines}
 use Rattle.dip_turn_papers.specs.declared.lines.PaperLine.{PaperLine}
 use Rattle.dip_desk_games.specs.ByPlace.{are_by_place}

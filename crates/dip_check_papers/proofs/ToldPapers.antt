@@ -12,8 +12,8 @@ use Rattle.dip_map.specs.Charts.{Chart}
 use Rattle.dip_orders.specs.declared.placed.PlacedOrder.{PlacedOrder}
 use Rattle.dip_turn.specs.Laws.{PhasesHaveOneResult}
 use Rattle.dip_turn.specs.Reports.{IsPlayed}
-use Rattle.dip_turn.specs.declared.report.Course.{Course}
-use Rattle.dip_turn.specs.declared.report.Course.TheVariants.{GoesOn, Won, Ended}
+use Rattle.dip_turn.specs.Course.{Course}
+use Rattle.dip_turn.specs.Course.TheVariants.{GoesOn, Won, Ended}
 use Rattle.dip_turn.specs.declared.report.Report.{Report}
 use Rattle.dip_turn_papers.specs.Papers.{paper_text}
 use Rattle.dip_desk_games.specs.Ticking.{due_after, public_played}

@@ -27,7 +27,7 @@ use Rattle.dip_orders.specs.declared.placed.Order.TheVariants.{Hold, Move, Suppo
 use Rattle.dip_orders.specs.declared.placed.PlacedOrder.{PlacedOrder}
 use Rattle.dip_turn.specs.Reports.{IsAdjusted}
 use Rattle.dip_turn.specs.declared.report.Adjustment.{Adjustment}
-use Rattle.dip_turn.specs.declared.report.Waiver.{Waiver}
+use Rattle.dip_turn.specs.Waiver.{Waiver}
 use Rattle.dip_turn.proofs.CountLemmas.{count_append, count_kept}
 use Rattle.dip_turn.proofs.MapLemmas.{AreEachLawful, each_lawful}
 use Rattle.dip_turn_papers.specs.Papers.{adjusted_lines, adjusted_power, adjusted_text, adjusted_with, by_province, disorder_lines, is_by, is_in, line_text, power_lines, told_text, unit_line, waiver_line}

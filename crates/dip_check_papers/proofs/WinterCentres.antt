@@ -10,9 +10,9 @@ use Rattle.dip_orders.specs.declared.placed.PlacedOrder.{PlacedOrder}
 use Rattle.dip_turn.specs.Adjusting.{after_adjustment}
 use Rattle.dip_turn.specs.Centres.{centre_line, centre_lines, is_same_owner}
 use Rattle.dip_turn.specs.Phases.{Sequel, follow, in_phase, last_year, new_year, sequel}
-use Rattle.dip_turn.specs.declared.report.CentreLine.{CentreLine}
-use Rattle.dip_turn.specs.declared.report.Course.{Course}
-use Rattle.dip_turn.specs.declared.report.Course.TheVariants.{Ended, GoesOn}
+use Rattle.dip_turn.specs.CentreLine.{CentreLine}
+use Rattle.dip_turn.specs.Course.{Course}
+use Rattle.dip_turn.specs.Course.TheVariants.{Ended, GoesOn}
 
 same_owner : (o : Option ℕ) → is_same_owner o o ≡ true
 same_owner None = refl

@@ -9,8 +9,8 @@ use Rattle.dip_desk_machine.specs.Draws.{AsksFor, Draws, DrawsAreAgreed, IsAgree
 use Rattle.dip_desk_machine.specs.Machine.{OnTime}
 use Rattle.dip_desk_commands.specs.Pressing.{is_among}
 use Rattle.dip_desk_games.specs.Ticking.{status_after}
-use Rattle.dip_turn.specs.declared.report.Course.{Course}
-use Rattle.dip_turn.specs.declared.report.Course.TheVariants.{GoesOn, Won as WonBy, Ended as AtAnEnd}
+use Rattle.dip_turn.specs.Course.{Course}
+use Rattle.dip_turn.specs.Course.TheVariants.{GoesOn, Won as WonBy, Ended as AtAnEnd}
 use Rattle.dip_desk_state.proofs.KeyedLemmas.{names_tell}
 use Rattle.dip_desk_state.specs.Records.{Drawn, Vote, No, Yes, For, Whole}
 use Rattle.dip_desk_games.proofs.ListLemmas.{all_weaker}

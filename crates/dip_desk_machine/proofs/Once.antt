@@ -16,11 +16,11 @@ use Rattle.dip_reports.specs.Texts.{board_lines, game_line, paper_line}
 use Rattle.dip_turn.specs.Laws.{AreAlike, IsSame, PhasesHaveOneResult}
 use Rattle.dip_turn.specs.declared.report.Account.{Account}
 use Rattle.dip_turn.specs.declared.report.Account.TheVariants.{Movement as OfMovement, Retreats as OfRetreats, Adjustment as OfAdjustment}
-use Rattle.dip_turn.specs.declared.report.CentreLine.{CentreLine}
-use Rattle.dip_turn.specs.declared.report.Course.{Course}
+use Rattle.dip_turn.specs.CentreLine.{CentreLine}
+use Rattle.dip_turn.specs.Course.{Course}
 use Rattle.dip_turn.specs.declared.report.Report.{Report}
-use Rattle.dip_turn.specs.declared.report.RetreatLine.{RetreatLine}
-use Rattle.dip_turn.specs.declared.report.Waiver.{Waiver}
+use Rattle.dip_turn.specs.RetreatLine.{RetreatLine}
+use Rattle.dip_turn.specs.Waiver.{Waiver}
 use Rattle.dip_desk_games.specs.Drawing.{drawn_between}
 use Rattle.dip_desk_machine.specs.Machine.{Decides, DecidesIn, DecidesNew, IsPublished, MasterDecides, NumberedBy, OnTime, Taken, Ticks, Verdict, author, old_number, paper_verdict}
 use Rattle.dip_desk_machine.specs.Mail.{Mail}

@@ -22,7 +22,7 @@ use Rattle.dip_turn.specs.Phases.{Sequel, follow}
 use Rattle.dip_turn.specs.Reports.{Leaves, LeavesMoved}
 use Rattle.dip_turn.specs.declared.report.Account.{Account}
 use Rattle.dip_turn.specs.declared.report.Account.TheVariants.{Movement as OfMovement, Retreats as OfRetreats, Adjustment as OfAdjustment}
-use Rattle.dip_turn.specs.declared.report.CentreLine.{CentreLine}
+use Rattle.dip_turn.specs.CentreLine.{CentreLine}
 use Rattle.dip_turn.specs.declared.report.Movement.{Movement}
 use Rattle.dip_turn.specs.declared.report.Report.{Report}
 use Rattle.dip_desk_machine.specs.Mail.{Mail}

@@ -19,8 +19,8 @@ use Rattle.dip_desk_state.specs.Records.{Own, Public}
 use Rattle.dip_turn.specs.Centres.{centres}
 use Rattle.dip_turn.specs.Laws.{WinnersOwnMore}
 use Rattle.dip_turn.specs.Reports.{IsPlayed}
-use Rattle.dip_turn.specs.declared.report.Course.{Course}
-use Rattle.dip_turn.specs.declared.report.Course.TheVariants.{GoesOn, Won as WonBy, Ended as AtAnEnd}
+use Rattle.dip_turn.specs.Course.{Course}
+use Rattle.dip_turn.specs.Course.TheVariants.{GoesOn, Won as WonBy, Ended as AtAnEnd}
 use Rattle.dip_turn.specs.declared.report.Report.{Report}
 use Rattle.dip_desk_games.specs.Drawing.{public_drawn}
 use Rattle.dip_desk_machine.specs.Machine.{author, digest, master_author, opening_public, power_author, seat_author}

@@ -19,7 +19,7 @@ use Rattle.dip_desk_state.specs.Records.{Public, Whole}
 use Rattle.dip_reports.specs.Texts.{board_lines, game_line}
 use Rattle.dip_turn.specs.Centres.{centre_lines}
 use Rattle.dip_turn.specs.Phases.{follow}
-use Rattle.dip_turn.specs.declared.report.CentreLine.{CentreLine}
+use Rattle.dip_turn.specs.CentreLine.{CentreLine}
 use Rattle.dip_desk_machine.specs.Machine.{Taken}
 use Rattle.dip_desk_state.specs.State.{Game, Publishes, State, game_at, whole_of}
 use Rattle.dip_desk_games.specs.Ticking.{orders_of}

@@ -8,7 +8,7 @@ use Rattle.dip_orders.specs.Retreats.{is_open, is_origin, next_places}
 use Rattle.dip_orders.specs.Standing.{is_same_unit}
 use Rattle.dip_orders.specs.Texts.{order_text, place_text}
 use Rattle.dip_turn.specs.Retreating.{is_in, refuge}
-use Rattle.dip_turn.specs.declared.report.RetreatLine.{RetreatLine}
+use Rattle.dip_turn.specs.RetreatLine.{RetreatLine}
 
 -- why a province is closed to a unit whose attacker came from there, if from anywhere
 abbrev pub closing_text : Position → Option ℕ → ℕ → List ℕ

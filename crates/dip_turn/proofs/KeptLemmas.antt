@@ -8,9 +8,9 @@ use Rattle.dip_names.specs.declared.names.Unit.{Unit as AUnit}
 use Rattle.dip_map.specs.declared.boards.Dislodged.{Dislodged}
 use Rattle.dip_map.specs.Boards.{Position}
 use Rattle.dip_orders.specs.declared.placed.PlacedOrder.{PlacedOrder}
-use Rattle.dip_turn.specs.Adjusting.{disorder, is_among, is_given, units_built, units_kept, units_staying}
+use Rattle.dip_turn_phases.specs.Adjusting.{disorder, is_among, is_given, units_built, units_kept, units_staying}
 use Rattle.dip_turn.specs.Laws.{RetreatsLoseNobodyElse, WintersAddBuildsAlone, WintersRemoveAlone}
-use Rattle.dip_turn.specs.Retreating.{after_retreat, after_retreats}
+use Rattle.dip_turn_phases.specs.Retreating.{after_retreat, after_retreats}
 use Rattle.dip_turn_moves.proofs.KeptLemmas.{all_here, given, kept_in, weaker}
 
 ReturnsOf : Position → List PlacedOrder → AUnit → Type 0

@@ -1,7 +1,4 @@
-pub mod DistanceLemmas
-pub mod DisorderLemmas
 pub mod RefugeLemmas
-pub mod CentreLemmas
 pub mod CalendarLemmas
 mod AscendingLemmas
 pub mod OneWayLemmas

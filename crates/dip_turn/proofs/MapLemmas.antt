@@ -30,17 +30,17 @@ use Rattle.dip_decide.specs.Meaning.{meant, meant_of, meant_on, meant_order, sit
 use Rattle.dip_decide.specs.Results.{AreExplained, values_in}
 use Rattle.dip_decide.specs.Statements.{ExplainedSatisfies, MeantAreOrders}
 use Rattle.dip_decide.specs.Steps.{steps_of}
-use Rattle.dip_turn.specs.Adjusting.{after_adjustment, disorder, is_among, is_given, units_built, units_kept, units_staying}
-use Rattle.dip_turn.specs.Centres.{holder, owner_by, owners_after, winner, with_owners}
+use Rattle.dip_turn_phases.specs.Adjusting.{after_adjustment, disorder, is_among, is_given, units_built, units_kept, units_staying}
+use Rattle.dip_turn_phases.specs.Centres.{holder, owner_by, owners_after, winner, with_owners}
 use Rattle.dip_turn.specs.Laws.{BoardsStayOfTheirMap, RetreatsAreOpen}
 use Rattle.dip_turn_moves.specs.Laws.{UnitsStandApart}
 use Rattle.dip_turn_moves.specs.Moving.{after_moves, at_destination, dislodged_after, dislodged_unit, entrant, enters, has_moved, is_driven_out, leads_to, may_go, moved_board, origin, prov, standing_after, unit_after}
-use Rattle.dip_turn.specs.Phases.{Sequel, after_count, follow, goes_on, has_dislodged, in_phase, last_year, needs_adjustment, new_year, sequel, year_end}
+use Rattle.dip_turn_phases.specs.Phases.{Sequel, after_count, follow, goes_on, has_dislodged, in_phase, last_year, needs_adjustment, new_year, sequel, year_end}
 use Rattle.dip_turn.specs.Reports.{Leaves, LeavesAdjusted, LeavesMoved, LeavesRetreated}
-use Rattle.dip_turn.specs.Retreating.{after_retreat, after_retreats}
+use Rattle.dip_turn_phases.specs.Retreating.{after_retreat, after_retreats}
 use Rattle.dip_turn.specs.declared.report.Account.{Account}
 use Rattle.dip_turn.specs.declared.report.Account.TheVariants.{Movement as OfMovement, Retreats as OfRetreats, Adjustment as OfAdjustment}
-use Rattle.dip_turn.specs.declared.report.Course.TheVariants.{GoesOn, Ended}
+use Rattle.dip_turn_phases.specs.declared.lines.Course.TheVariants.{GoesOn, Ended}
 use Rattle.dip_turn.proofs.CentreLaws.{owners_at, owners_count}
 use Rattle.dip_turn_moves.proofs.KeptLemmas.{movements_keep_units, not_true}
 use Rattle.dip_turn.proofs.KeptLemmas.{retreats_lose_nobody_else}

@@ -16,7 +16,7 @@ use Rattle.dip_orders.proofs.FindLaws.{find_passes}
 use Rattle.dip_orders.proofs.KeptLaws.{count_cons}
 use Rattle.dip_orders.proofs.StandingLaws.{same_unit}
 use Rattle.dip_turn.specs.Laws.{RetreatsAreOpen, RetreatsMeetNowhere}
-use Rattle.dip_turn.specs.Retreating.{after_retreat, at_refuge, found_retreat, goal, is_for_dislodged, is_in, is_sought_by_one, refuge}
+use Rattle.dip_turn_phases.specs.Retreating.{after_retreat, at_refuge, found_retreat, goal, is_for_dislodged, is_in, is_sought_by_one, refuge}
 
 -- what is found is an element
 pub found_in : {A : Type 0} (p : A → Bool) (xs : List A) (y : A) → find p xs ≡ Some y → Contains xs y

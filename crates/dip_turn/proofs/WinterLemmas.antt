@@ -22,13 +22,13 @@ use Rattle.dip_orders.specs.declared.placed.PlacedOrder.{PlacedOrder}
 use Rattle.dip_orders.proofs.KeptLaws.{count_cons}
 use Rattle.dip_orders.proofs.LawfulReadLaws.{any_at}
 use Rattle.dip_orders.proofs.StandingLaws.{same_unit, unit_itself, made_among}
-use Rattle.dip_turn.specs.Adjusting.{after_adjustment, builds_given, disorder, disorder_of, is_among, is_given, removals_given, removals_owed, units_built, units_kept, units_of_power, units_staying}
+use Rattle.dip_turn_phases.specs.Adjusting.{after_adjustment, builds_given, disorder, disorder_of, is_among, is_given, removals_given, removals_owed, units_built, units_kept, units_of_power, units_staying}
 use Rattle.dip_turn.specs.Laws.{BuildsStand, IsEvened, WintersEvenUnits}
-use Rattle.dip_turn.specs.Phases.{Sequel, follow, has_dislodged, in_phase, last_year, new_year, sequel}
+use Rattle.dip_turn_phases.specs.Phases.{Sequel, follow, has_dislodged, in_phase, last_year, new_year, sequel}
 use Rattle.dip_turn.specs.Reports.{IsPlayed, Leaves, LeavesAdjusted}
 use Rattle.dip_turn.specs.declared.report.Account.{Account}
 use Rattle.dip_turn.specs.declared.report.Account.TheVariants.{Movement as OfMovement, Retreats as OfRetreats, Adjustment as OfAdjustment}
-use Rattle.dip_turn.specs.declared.report.Course.TheVariants.{GoesOn, Ended}
+use Rattle.dip_turn_phases.specs.declared.lines.Course.TheVariants.{GoesOn, Ended}
 use Rattle.dip_turn.specs.declared.report.Report.{Report}
 use Rattle.dip_turn.proofs.CountLemmas.{count_append, count_kept, count_map, fewer, flat_among, flat_from, number_among, kept_alike, kept_in_turn, one_if, some_or_none}
 use Rattle.dip_turn.proofs.DisorderCounts.{goes_among, stays_count}

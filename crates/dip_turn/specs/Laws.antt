@@ -13,15 +13,15 @@ use Rattle.dip_orders.specs.declared.placed.Order.TheVariants.{Build}
 use Rattle.dip_orders.specs.declared.placed.PlacedOrder.{PlacedOrder}
 use Rattle.dip_decide.specs.Resolution.{Resolution}
 use Rattle.dip_orders.specs.Conditions.{is_retreat}
-use Rattle.dip_turn.specs.Adjusting.{after_adjustment, builds_given, disorder, is_among, is_given, units_built}
-use Rattle.dip_turn.specs.Centres.{has_won, holder}
-use Rattle.dip_turn.specs.Phases.{has_dislodged, last_year}
+use Rattle.dip_turn_phases.specs.Adjusting.{after_adjustment, builds_given, disorder, is_among, is_given, units_built}
+use Rattle.dip_turn_phases.specs.Centres.{has_won, holder}
+use Rattle.dip_turn_phases.specs.Phases.{has_dislodged, last_year}
 use Rattle.dip_turn.specs.Reports.{IsPlayed}
-use Rattle.dip_turn.specs.Retreating.{after_retreat, after_retreats}
+use Rattle.dip_turn_phases.specs.Retreating.{after_retreat, after_retreats}
 use Rattle.dip_turn.specs.declared.report.Account.{Account}
 use Rattle.dip_turn.specs.declared.report.Account.TheVariants.{Movement as OfMovement, Retreats as OfRetreats, Adjustment as OfAdjustment}
-use Rattle.dip_turn.specs.declared.report.Course.{Course}
-use Rattle.dip_turn.specs.declared.report.Course.TheVariants.{GoesOn, Won, Ended}
+use Rattle.dip_turn_phases.specs.declared.lines.Course.{Course}
+use Rattle.dip_turn_phases.specs.declared.lines.Course.TheVariants.{GoesOn, Won, Ended}
 use Rattle.dip_turn.specs.declared.report.Report.{Report}
 
 -- the movement of Fall and its retreats

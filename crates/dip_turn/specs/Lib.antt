@@ -1,9 +1,3 @@
-pub mod Distances
-pub mod Disorder
-pub mod Retreating
-pub mod Adjusting
-pub mod Centres
-pub mod Phases
 pub mod Reports
 pub mod Laws
 pub use Rattle.dip_turn_moves.specs.Moving
@@ -11,3 +5,12 @@ pub use Rattle.dip_turn_moves.specs.Outcomes
 pub use Rattle.dip_turn_moves.specs.declared.lines.Fate
 pub use Rattle.dip_turn_moves.specs.declared.lines.MovementLine
 pub use Rattle.dip_turn_moves.specs.declared.lines.Outcome
+pub use Rattle.dip_turn_phases.specs.Adjusting
+pub use Rattle.dip_turn_phases.specs.Centres
+pub use Rattle.dip_turn_phases.specs.Disorder
+pub use Rattle.dip_turn_phases.specs.Phases
+pub use Rattle.dip_turn_phases.specs.Retreating
+pub use Rattle.dip_turn_phases.specs.declared.lines.CentreLine
+pub use Rattle.dip_turn_phases.specs.declared.lines.Course
+pub use Rattle.dip_turn_phases.specs.declared.lines.RetreatLine
+pub use Rattle.dip_turn_phases.specs.declared.lines.Waiver

@@ -12,12 +12,12 @@ use Rattle.dip_decide.specs.Meaning.{meant_on, situation_on}
 use Rattle.dip_decide.specs.Movement.{Satisfies}
 use Rattle.dip_decide.specs.Results.{AreExplained, AreInOrder, IsOnly, broken_in, decided_in, forced_in, mentions_in, values_in}
 use Rattle.dip_decide.specs.Steps.{steps_of}
-use Rattle.dip_turn.specs.Adjusting as adjusting
-use Rattle.dip_turn.specs.Centres.{centre_lines}
+use Rattle.dip_turn_phases.specs.Adjusting as adjusting
+use Rattle.dip_turn_phases.specs.Centres.{centre_lines}
 use Rattle.dip_turn_moves.specs.Moving.{after_moves}
 use Rattle.dip_turn_moves.specs.Outcomes.{movement_lines}
-use Rattle.dip_turn.specs.Phases.{sequel, follow}
-use Rattle.dip_turn.specs.Retreating.{after_retreats, retreat_lines}
+use Rattle.dip_turn_phases.specs.Phases.{sequel, follow}
+use Rattle.dip_turn_phases.specs.Retreating.{after_retreats, retreat_lines}
 use Rattle.dip_turn.specs.declared.report.Account.{Account}
 use Rattle.dip_turn.specs.declared.report.Account.TheVariants.{Movement as OfMovement, Retreats as OfRetreats, Adjustment as OfAdjustment}
 use Rattle.dip_turn.specs.declared.report.Adjustment.{Adjustment}

@@ -1,18 +1,18 @@
 //! A phase, adjudicated.
 ghost use Rattle.std.specs.Prelude.{◌≡◌, IfOk, IfErr, length};
 ghost use Rattle.dip_map.specs.Boards.{IsOf};
-ghost use Rattle.dip_turn.specs.Phases as p;
+ghost use Rattle.dip_turn_phases.specs.Phases as p;
 ghost use Rattle.dip_turn.specs.Reports.{IsMoved, IsAdjusted, LeavesMoved, LeavesRetreated, LeavesAdjusted, Leaves, IsPlayed};
 
-use crate::adjusting::{after_adjustment, disorder, units_built, units_given, waivers};
-use crate::centres::centre_lines;
-use crate::phases::follow;
 use crate::report::{Account, Adjustment, Movement, Report};
-use crate::retreating::{after_retreats, retreat_lines};
 use dip_decide::{meant, resolve};
 use dip_map::{Board, Map, Season};
 use dip_orders::{Orders, PlacedOrder, each_unit_has_one_order};
 use dip_turn_moves::{moved_board, movement_lines, without_destroyed};
+use dip_turn_phases::{
+    after_adjustment, after_retreats, centre_lines, follow, retreat_lines, units_built,
+    units_given, units_in_disorder, waivers,
+};
 use std::alloc::{AllocError, Global};
 
 /// The board that a movement leaves, and what is told of it.
@@ -61,7 +61,7 @@ fn adjust_units(
     let left = after_adjustment(alloc, map, board, pending)?;
     let builds = units_built(alloc, pending)?;
     let removals = units_given(alloc, board, pending)?;
-    let disorder = disorder(alloc, map, board, pending)?;
+    let disorder = units_in_disorder(alloc, map, board, pending)?;
     let waivers = waivers(alloc, map, board, pending)?;
     Ok((
         left,

@@ -1,9 +1,10 @@
 //! What is told of a phase that was adjudicated.
 use dip_decide::Resolution;
 use dip_map::Phase;
-use dip_names::{Power, Prov, Unit};
-use dip_orders::{Orders, PlacedOrder};
+use dip_names::Unit;
+use dip_orders::Orders;
 use dip_turn_moves::MovementLine;
+use dip_turn_phases::{CentreLine, Course, RetreatLine, Waiver};
 
 /// The account of a movement: what was ordered and decided, and what became of each order and unit.
 #[derive(Drop)]
@@ -14,22 +15,6 @@ pub struct Movement {
     pub resolution: Resolution,
     /// What became of each order and its unit, in the same order as `orders`.
     pub lines: Vec<MovementLine>,
-}
-
-/// A dislodged unit and its order, to disband where it had none.
-#[derive(Clone, Copy, PartialEq, Eq, Debug)]
-pub struct RetreatLine {
-    pub placed: PlacedOrder,
-    /// Whether the unit retreated. If not, it disbanded.
-    pub is_made: bool,
-}
-
-/// Builds that a power might have made and didn't.
-#[derive(Clone, Copy, PartialEq, Eq, Debug)]
-pub struct Waiver {
-    pub power: Power,
-    /// How many, at least 1.
-    pub builds: usize,
 }
 
 /// What is told of a Winter.
@@ -45,13 +30,6 @@ pub struct Adjustment {
     pub waivers: Vec<Waiver>,
 }
 
-/// A centre that changed hands, and the power that owns it now.
-#[derive(Clone, Copy, PartialEq, Eq, Debug)]
-pub struct CentreLine {
-    pub prov: Prov,
-    pub power: Power,
-}
-
 /// The account of a movement, of retreats, or of a Winter.
 #[derive(Drop)]
 pub enum Account {
@@ -59,17 +37,6 @@ pub enum Account {
     /// A line for each dislodged unit, in the board's order.
     Retreats(Vec<RetreatLine>),
     Adjustment(Adjustment),
-}
-
-/// Whether a game goes on.
-#[derive(Clone, Copy, PartialEq, Eq, Debug)]
-pub enum Course {
-    /// The board's phase is to be played next.
-    GoesOn,
-    /// The power owns more than half of all centres.
-    Won(Power),
-    /// The last phase of the last year was played, and nobody has won.
-    Ended,
 }
 
 /// All that the adjudication of a phase says beside the board after it. A paper prints it.

@@ -15,10 +15,10 @@ use Rattle.dip_turn.specs.Outcome.TheVariants.{Holds, Moves, Bounced, NoRoute, G
 use Rattle.dip_turn.specs.declared.report.Account.{Account}
 use Rattle.dip_turn.specs.declared.report.Account.TheVariants.{Movement as OfMovement, Retreats as OfRetreats, Adjustment as OfAdjustment}
 use Rattle.dip_turn.specs.declared.report.Adjustment.{Adjustment}
-use Rattle.dip_turn.specs.declared.report.CentreLine.{CentreLine}
+use Rattle.dip_turn.specs.CentreLine.{CentreLine}
 use Rattle.dip_turn.specs.declared.report.Report.{Report}
-use Rattle.dip_turn.specs.declared.report.RetreatLine.{RetreatLine}
-use Rattle.dip_turn.specs.declared.report.Waiver.{Waiver}
+use Rattle.dip_turn.specs.RetreatLine.{RetreatLine}
+use Rattle.dip_turn.specs.Waiver.{Waiver}
 use Rattle.dip_desk_state.specs.Records.{Public}
 use Rattle.dip_reports.specs.Texts.{board_lines, game_line, phase_text}
 use Rattle.dip_turn_papers.specs.declared.lines.PaperLine.{PaperLine}

@@ -1,6 +1,0 @@
-use Rattle.std.proofs.Common.{◌≡◌, ◌++◌, drop}
-use Rattle.dip_turn.specs.Adjusting.{units_built}
-use Rattle.dip_turn.proofs.adjusting.units_built.Given as goal
-
-abbrev pub invariant-loop-placed : goal.invariant-loop-placed
-invariant-loop-placed l = l.units.items ++ units_built (drop l.placed-index l.pending) ≡ units_built l.pending

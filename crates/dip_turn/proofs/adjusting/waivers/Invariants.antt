@@ -1,8 +1,0 @@
-use Rattle.std.proofs.Common.{◌≡◌, ◌++◌}
-use Rattle.std.specs.List.{filter_map}
-use Rattle.dip_map.specs.Charts.{powers}
-use Rattle.dip_turn.specs.Adjusting.{waiver}
-use Rattle.dip_turn.proofs.adjusting.waivers.Given as goal
-
-abbrev pub invariant-loop-power : goal.invariant-loop-power
-invariant-loop-power l = l.all.items ++ filter_map (waiver l.map l.board l.pending) l.power-iterator ≡ filter_map (waiver l.map l.board l.pending) (powers l.map)

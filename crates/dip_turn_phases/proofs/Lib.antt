@@ -1,0 +1,3 @@
+pub mod DistanceLemmas
+pub mod DisorderLemmas
+pub mod CentreLemmas

@@ -1,7 +1,9 @@
 pub mod Among
 pub mod ByPlace
+pub mod Decided
 pub mod Opening
 pub mod Ordering
 pub mod Ticking
 pub mod Drawing
 pub mod Noting
+pub mod Verdicts

@@ -5,8 +5,8 @@ use Rattle.dip_letters.specs.Notes.{Request}
 use Rattle.dip_letters.specs.Notes.MasterRequest.{Create, Notify, Replace, Tick}
 use Rattle.dip_letters.specs.Notes.Request.{Master, Player}
 use Rattle.dip_map.specs.Charts.{Chart, power_of}
-use Rattle.dip_desk_commands.specs.Drawing.{drawn_between}
-use Rattle.dip_desk_commands.specs.Ticking.{is_due, is_over}
+use Rattle.dip_desk_machine.specs.Drawing.{drawn_between}
+use Rattle.dip_desk_machine.specs.Ticking.{is_due, is_over}
 use Rattle.dip_desk_machine.specs.Machine.{Decides, DecidesIn, DecidesNew, IsPublished, MasterDecides, NumberedBy, OnTime, Step, Ticks, Verdict, creation, digest, has_seat, head_of, notice_verdict, old_number, power_author, refusal_verdict, replacement, reply_of}
 use Rattle.dip_desk_machine.specs.Mail.{Mail}
 use Rattle.dip_desk_state.specs.Records.{Kept, Public, Reply, Whole}

@@ -8,11 +8,11 @@ pub mod Lawful
 pub mod Fitting
 pub mod Titles
 pub mod Handing
-pub use Rattle.dip_desk_commands.specs.Pressing
-pub use Rattle.dip_desk_commands.specs.Verdicts
-pub use Rattle.dip_desk_commands.specs.Voting
 pub use Rattle.dip_desk_games.specs.ByPlace
 pub use Rattle.dip_desk_games.specs.Drawing
 pub use Rattle.dip_desk_games.specs.Noting
 pub use Rattle.dip_desk_games.specs.Ordering
 pub use Rattle.dip_desk_games.specs.Ticking
+pub use Rattle.dip_desk_games.specs.Verdicts
+pub use Rattle.dip_desk_players.specs.Pressing
+pub use Rattle.dip_desk_players.specs.Voting

@@ -2,16 +2,16 @@
 ghost use Rattle.std.specs.Prelude.{◌≡◌, Some, IfOk, IsErrOf, true};
 ghost use Rattle.dip_letters.specs.Views.{player_request};
 ghost use Rattle.dip_desk_games.specs.Ordering.{has_foreign};
-ghost use Rattle.dip_desk_commands.specs.Verdicts.{verdict};
+ghost use Rattle.dip_desk_games.specs.Verdicts.{verdict};
 ghost use Rattle.dip_desk_machine.specs.Mail.{mail};
 ghost use Rattle.dip_desk_machine.specs.Machine as m;
 ghost use Rattle.dip_desk_state.specs.Faults.{faults_after};
 ghost use Rattle.dip_desk_state.specs.Rows as rows;
 
 use crate::numbers::old_number;
-use dip_desk_commands::{
-    Verdict, orders_in_game, plain_vote, press_verdict, refusal_verdict, vote_for_verdict,
-    vote_verdict, withdraw_verdict,
+use dip_desk_games::{Verdict, refusal_verdict};
+use dip_desk_players::{
+    orders_in_game, plain_vote, press_verdict, vote_for_verdict, vote_verdict, withdraw_verdict,
 };
 use dip_desk_state::{Effect, Item, KeepFault, Own, Public};
 use dip_letters::{Command, Letter, PlayerCommand};

@@ -7,7 +7,8 @@ mod mastering;
 mod numbers;
 
 pub use deciding::seat_verdict;
-pub use dip_desk_commands::{Verdict, digest_of};
+pub use dip_desk_games::Verdict;
+pub use dip_desk_masters::digest_of;
 pub use laws::{
     answered_from_what_is_seen, draws_are_agreed, effects_are_shown, effects_fit,
     histories_are_one, lawful_states_stay_lawful, new_desks_are_lawful,

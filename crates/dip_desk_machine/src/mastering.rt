@@ -9,13 +9,12 @@ ghost use Rattle.dip_desk_state.specs.Faults.{faults_after};
 ghost use Rattle.dip_desk_machine.specs.Mail.{mail};
 ghost use Rattle.dip_desk_machine.specs.Machine.{IsDamagedSight, MasterDecidesBy, OfMaster};
 ghost use Rattle.dip_desk_machine.specs.Sights.{game_seen, public_seen, seating_seen, whole_seen};
-ghost use Rattle.dip_desk_commands.specs.Verdicts.{verdict};
+ghost use Rattle.dip_desk_games.specs.Verdicts.{verdict};
 ghost use Rattle.dip_desk_state.specs.Rows as rows;
 
 use crate::numbers::old_number;
-use dip_desk_commands::{
-    Verdict, creation, notice_verdict, refusal_verdict, replacement, tick_verdict,
-};
+use dip_desk_games::{Verdict, refusal_verdict};
+use dip_desk_masters::{creation, notice_verdict, replacement, tick_verdict};
 use dip_desk_state::{KeepFault, Kept, Public, Whole};
 use dip_letters::{Letter, Notice, Opening, Seat};
 use dip_map::Map;

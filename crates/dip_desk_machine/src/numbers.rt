@@ -1,11 +1,11 @@
 //! What an old number comes to.
 ghost use Rattle.std.specs.Prelude.{◌≡◌, IfOk, option_map};
-ghost use Rattle.dip_desk_commands.specs.Verdicts.{verdict};
+ghost use Rattle.dip_desk_games.specs.Verdicts.{verdict};
 ghost use Rattle.dip_desk_machine.specs.Mail.{mail};
 ghost use Rattle.dip_desk_machine.specs.Machine as m;
 ghost use Rattle.dip_desk_state.specs.Rows as rows;
 
-use dip_desk_commands::Verdict;
+use dip_desk_games::Verdict;
 use dip_desk_state::Kept;
 use dip_letters::{Letter, sum};
 use dip_reports::{Refusal, refusal_line};

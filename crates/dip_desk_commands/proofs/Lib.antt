@@ -1,3 +1,0 @@
-pub mod OrderingLemmas
-pub mod PressLemmas
-pub mod SeatLemmas

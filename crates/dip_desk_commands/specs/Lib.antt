@@ -1,9 +1,0 @@
-pub mod Pressing
-pub mod Voting
-pub mod OrderingRows
-pub mod Commands
-pub mod Verdicts
-pub use Rattle.dip_desk_games.specs.Drawing
-pub use Rattle.dip_desk_games.specs.Noting
-pub use Rattle.dip_desk_games.specs.Ordering
-pub use Rattle.dip_desk_games.specs.Ticking

@@ -1,0 +1,2 @@
+pub mod OrderingLemmas
+pub mod PressLemmas

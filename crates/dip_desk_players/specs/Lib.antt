@@ -1,0 +1,4 @@
+pub mod Pressing
+pub mod Voting
+pub mod OrderingRows
+pub mod Commands

@@ -1,5 +1,5 @@
 -- What each call of a keeper keeps.
-use Rattle.std.specs.Prelude.{◌≡◌, ◌≤◌, ◌⊎◌, ℕ, Result, OnOk, OnErr, IfOk, IsErrOf}
+use Rattle.std.specs.Prelude.{◌≡◌, ◌≤◌, ◌⊎◌, ℕ, List, Result, OnOk, OnErr, IfOk, IsErrOf}
 use Rattle.dip_map.specs.Charts.{Chart}
 use Rattle.dip_desk_state.specs.Faults.{faults_after, next_count}
 use Rattle.dip_desk_state.specs.State.{State}
@@ -12,8 +12,10 @@ pub record Book (K : Type 0) : Type 1 where
   pub content : Chart → K → State
   -- what an open after a crash may find
   pub may_leave : Chart → K → State → Type 0
-  -- an open takes whatever that is: it is what a keeper wrote by this map
+  -- an open takes whatever that is: it is what a keeper wrote by this map, made for the map's text
   pub again : Chart → K → Type 0
+  -- the sum of that text
+  pub map_sum : K → List ℕ
   -- how many faults of the disk it has told of
   pub faults : K → ℕ
   -- and how many its store has told it of
@@ -45,6 +47,7 @@ pub record Keeps {K X : Type 0} (m : Chart) (b : Book K) (old new : K) (result :
   pub told : b.told old ≤ b.told new
   pub of_size : b.of_size old ≤ b.of_size new
   pub fair : b.honest new → b.honest old
+  pub same_map : b.map_sum new ≡ b.map_sum old
   pub shown : b.shows new → b.shows old
   pub sound : b.sound m old → b.shows new → b.sound m new
   pub firm : b.sound m old → b.honest new → OnOk result (b.sound m new)

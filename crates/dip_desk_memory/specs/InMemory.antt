@@ -1,5 +1,5 @@
 -- What contracts see of a keeper in memory.
-use Rattle.std.specs.Prelude.{◌≡◌}
+use Rattle.std.specs.Prelude.{◌≡◌, []}
 use Rattle.dip_desk_keeper.specs.Keeping.{Book}
 use Rattle.dip_desk_memory.specs.Stored.{games}
 use Rattle.dip_desk_memory.specs.declared.memory.MemoryKeeper.{MemoryKeeper}
@@ -16,6 +16,7 @@ book = record {
   content = λ m k. state k;
   may_leave = λ m k left. left ≡ state k;
   again = λ m k. Unit {0};
+  map_sum = λ _. [];
   faults = λ _. 0;
   told = λ _. 0;
   of_size = λ _. 0;

@@ -93,6 +93,7 @@ module _ {K : Type 0} (m : Chart) (b : Book K) where
     told = omega arith;
     of_size = omega arith;
     fair = λ honest. honest;
+    same_map = refl;
     shown = λ shows. shows;
     sound = λ sound shows. sound;
     firm = λ sound honest. on_kept r (b.sound m k) sound;
@@ -118,6 +119,7 @@ module _ {K : Type 0} (m : Chart) (b : Book K) where
       told = k.told;
       of_size = k.of_size;
       fair = k.fair;
+      same_map = k.same_map;
       shown = k.shown;
       sound = k.sound;
       firm = λ sound honest. on_kept r (b.sound m new) (k.firm sound honest);
@@ -136,6 +138,7 @@ module _ {K : Type 0} (m : Chart) (b : Book K) where
       told = k.told;
       of_size = k.of_size;
       fair = k.fair;
+      same_map = k.same_map;
       shown = k.shown;
       sound = k.sound;
       firm = λ sound honest. tt;

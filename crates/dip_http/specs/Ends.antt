@@ -26,6 +26,7 @@ pub record Keeps {K X : Type 0} (m : Chart) (b : Book K) (old new : K) (result :
   pub told : b.told old ≤ b.told new
   pub of_size : b.of_size old ≤ b.of_size new
   pub fair : b.honest new → b.honest old
+  pub same_map : b.map_sum new ≡ b.map_sum old
   pub shown : b.shows new → b.shows old
   pub sound : b.sound m old → b.shows new → b.sound m new
   pub firm : b.sound m old → b.honest new → OnKept result (b.sound m new)

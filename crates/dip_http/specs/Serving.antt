@@ -89,6 +89,7 @@ pub record MeetsNext {K : Type 0} (m : Chart) (b : Book K) (old new : K) (result
   pub told : b.told old ≤ b.told new
   pub of_size : b.of_size old ≤ b.of_size new
   pub fair : b.honest new → b.honest old
+  pub same_map : b.map_sum new ≡ b.map_sum old
   pub shown : b.shows new → b.shows old
 
 -- all of so many clients, over a keeper that was open: where it shows what it keeps still, it is open, and they made
@@ -120,3 +121,4 @@ pub record ServesAll {K : Type 0} (m : Chart) (b : Book K) (clients : ℕ) (old 
   pub shut : IfErr result IsShut
   pub count : b.faults new ≡ faults_after result (b.faults old)
   pub fair : b.honest new → b.honest old
+  pub same_map : b.map_sum new ≡ b.map_sum old

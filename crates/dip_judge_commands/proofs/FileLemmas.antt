@@ -85,15 +85,15 @@ module _ {D : Type 0} {g : disk.Ghosts D} (image : Image) (m : Chart) (first : H
 
   module _ (last : Held (FileStore D g)) (fair : is_honest over_files last → HasCleanDisk (file_state first)) where
     -- a lawful desk of the file is one of the store
-    pub lasts_in : (Lasting : Type 0) → LastsFrom over_files m first last Lasting → is_honest over_files last → HeldLawful image m → Lasting
-    lasts_in Lasting lasts clean held =
+    pub lasts_in : (text : List ℕ) (Lasting : Type 0) → LastsFrom over_files m text first last Lasting → is_honest over_files last → HeldLawful image m text → Lasting
+    lasts_in text Lasting lasts clean held =
         let it = opened (fair clean) in
         let said = held (file_state first).now (is_found (fair clean)) in
-        lasts clean said.0 (record { shows = (fair clean, it.0.is_open); idle = it.0.autocommit; says = said.1 }) said.2
+        lasts clean said.0 (record { shows = (fair clean, it.0.is_open); idle = it.0.autocommit; says = said.1 }) said.2 said.3
 
-    pub lasts_serving : (result : Result (Unit {0}) Failure) → LastsFrom over_files m first last (Lasts over_files m last result ⊎ has_faulted over_files first last)
-        → LastsServing over_files image m last result
-    lasts_serving result lasts clean held = elim (lasts_in _ lasts clean held) [
+    pub lasts_serving : (text : List ℕ) (result : Result (Unit {0}) Failure) → LastsFrom over_files m text first last (Lasts over_files m text last result ⊎ has_faulted over_files first last)
+        → LastsServing over_files image m text last result
+    lasts_serving text result lasts clean held = elim (lasts_in text _ lasts clean held) [
       | inl it ↦ inl it
       | inr fault ↦ inr (some_fault over_files first last fault)
     ]
@@ -118,8 +118,8 @@ module _ {S : Type 0} (g : Ghosts S) (image : Image) (m : Chart) (known left bef
   pub tells_as : (text : List ℕ) → IfSome opened (λ store. TellsStore g image m text b store r) → IfSome opened (λ store. TellsStore g image m text a store r)
   tells_as text tells = subst (λ a. IfSome opened (λ store. TellsStore g image m text a store r)) (sym is) tells
 
-  pub lasts_as : IfSome opened (λ store. LastsAs g image m b store r) → IfSome opened (λ store. LastsAs g image m a store r)
-  lasts_as lasts = subst (λ a. IfSome opened (λ store. LastsAs g image m a store r)) (sym is) lasts
+  pub lasts_as : (text : List ℕ) → IfSome opened (λ store. LastsAs g image m text b store r) → IfSome opened (λ store. LastsAs g image m text a store r)
+  lasts_as text lasts = subst (λ a. IfSome opened (λ store. LastsAs g image m text a store r)) (sym is) lasts
 
   pub leaves_as : OnOk r (LeavesStore g image m known left before after b opened) → OnOk r (LeavesStore g image m known left before after a opened)
   leaves_as leaves = subst (λ a. OnOk r (LeavesStore g image m known left before after a opened)) (sym is) leaves

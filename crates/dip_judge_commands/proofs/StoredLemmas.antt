@@ -107,7 +107,7 @@ module _ {S : Type 0} (g : Ghosts S) (m : Chart) (F G : Type 0) (turn : F → G)
     where
       so : (db : Database) → IsSameOrRenewed m s Was db → IsSameOrRenewed m s Will db
       so db (inl was) = inl (will db was)
-      so db (inr renewed) = inr renewed
+      so db (inr renewed) = inr (renewed.0, will renewed.0 renewed.1, renewed.2)
 
 module _ {S : Type 0} (g : Ghosts S) (m : Chart) (F G : Type 0) (turn : F → G) (Was Will : Database → Type 0) (will : (db : Database) → Was db → Will db) (old : State) (new : Held S)
     (known left before after : Option (List ℕ)) where

@@ -38,7 +38,7 @@ fn init_file<S: Start>(
     ensures tells { IfSome result.1 (λ store. is_honest over_files store
         → OnOk result.0 (SaysText over_files text.now store)) }
     ensures lasts { IfSome result.1 (λ store. is_honest over_files store
-        → OnOk result.0 (LeavesLawful over_files map.now store)) }
+        → OnOk result.0 (LeavesLawful over_files map.now text.now store)) }
 {
     new_desks_are_lawful();
     match system.open_new(start, path) {
@@ -71,7 +71,7 @@ fn answer_file<S: Start, R: Read, W: Write>(
     ensures tells { IfSome result.1 (λ store.
         TellsOfFile over_files (image_at S.Start) map.now text.now store result.0) }
     ensures lasts { IfSome result.1 (λ store.
-        LastsIn over_files (image_at S.Start) map.now store result.0) }
+        LastsIn over_files (image_at S.Start) map.now text.now store result.0) }
 {
     match system.open_present(start, path) {
         Err(fault) => (Err(Failure::Store(fault)), None),
@@ -100,7 +100,7 @@ fn serve_file<S: Start>(
     ensures tells { IfSome result.1 (λ store.
         TellsOfFile over_files (image_at S.Start) map.now text.now store result.0) }
     ensures lasts { IfSome result.1 (λ store.
-        LastsServing over_files (image_at S.Start) map.now store result.0) }
+        LastsServing over_files (image_at S.Start) map.now text.now store result.0) }
 {
     match system.open_present(start, path) {
         Err(fault) => (Err(Failure::Store(fault)), None),
@@ -130,7 +130,7 @@ fn report_file<S: Start, W: Write>(
     ensures tells { IfSome result.1 (λ store.
         TellsOfFile over_files (image_at S.Start) map.now text.now store result.0) }
     ensures lasts { IfSome result.1 (λ store.
-        LastsIn over_files (image_at S.Start) map.now store result.0) }
+        LastsIn over_files (image_at S.Start) map.now text.now store result.0) }
 {
     match system.open_present(start, path) {
         Err(fault) => (Err(Failure::Store(fault)), None),
@@ -164,7 +164,7 @@ fn do_asked<S: Start, R: Read, W: Write>(
     ensures tells { IfSome result.1 (λ store.
         TellsStore over_files (image_at S.Start) map.now text.now args.now store result.0) }
     ensures lasts { IfSome result.1 (λ store.
-        LastsAs over_files (image_at S.Start) map.now args.now store result.0) }
+        LastsAs over_files (image_at S.Start) map.now text.now args.now store result.0) }
 {
     match args {
         Args::Init { store, master, .. } => init_file(system, start, store, map, text, master),
@@ -217,9 +217,9 @@ pub fn do_as_asked<S: Start, R: Read, W: Write>(
     ensures tells { IfSome result.1 (λ store. IsAskedOver STANDARD.now
         (each (λ w. w.now) words.entry.now)
         (λ a m text. TellsStore over_files (image_at S.Start) m text a store result.0)) }
-    ensures lasts { IfSome result.1 (λ store. IsAskedFor STANDARD.now
+    ensures lasts { IfSome result.1 (λ store. IsAskedOver STANDARD.now
         (each (λ w. w.now) words.entry.now)
-        (λ a m. LastsAs over_files (image_at S.Start) m a store result.0)) }
+        (λ a m text. LastsAs over_files (image_at S.Start) m text a store result.0)) }
     ensures stops { IfErr result.0 (λ f. IfAsked STANDARD.now (each (λ w. w.now) words.entry.now) f
         (λ a m. StopsStore over_files (image_at S.Start) m (R.remaining reader.old)
         (R.remaining reader.new) (W.contents writer.old) (W.contents writer.new) a f result.1)) }

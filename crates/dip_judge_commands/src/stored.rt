@@ -7,7 +7,7 @@ ghost use Rattle.dip_judge_commands.specs.Lasting.{Lasts, LastsFrom};
 ghost use Rattle.dip_judge_commands.specs.Stores.{AnswersFrom, IsReportFailure, IsServeFailure, ReadsInput, Reports, ServesFrom, StopsFrom, StopsReport, StopsServing, TellsOfStore};
 ghost use Rattle.dip_store.specs.Calls.{does_show, is_honest};
 ghost use Rattle.dip_store.specs.Causes.{has_faulted};
-ghost use Rattle.dip_store.specs.Opening.{Holds, IsDesk, IsNowOf, IsUnmadeBy, Says, SaysText};
+ghost use Rattle.dip_store.specs.Opening.{Holds, IsDesk, IsNowOf, IsUnmadeBy, LeavesText, Says, SaysText};
 
 use crate::failures::Failure;
 use crate::system::{Stored, System};
@@ -34,7 +34,7 @@ pub fn make_desk<S: Alter>(
 ) -> (Result<(), StoreFault>, Connection<S>)
     ensures made { is_honest S.Store result.1
         → OnOk result.0 (Holds S.Store map.now (fresh_desk master.now) result.1
-        × SaysText S.Store text.now result.1) }
+        × SaysText S.Store text.now result.1 × LeavesText S.Store text.now result.1) }
     ensures unmade { IfErr result.0 (IsUnmadeBy S.Store store result.1) }
     ensures same { does_show S.Store result.1 → OnErr result.0
         ((state S.Store result.1).committed ≡ (state S.Store store).committed) }
@@ -70,8 +70,8 @@ pub fn answer_stored<S: Alter, R: Read, W: Write>(
     ensures reads { ReadsInput (R.remaining reader.old) (R.remaining reader.new)
         (W.contents writer.old) (W.contents writer.new) result.0 }
     ensures tells { TellsOfStore S.Store map.now text.now store result.1 result.0 }
-    ensures lasts { LastsFrom S.Store map.now store result.1
-        (Lasts S.Store map.now result.1 result.0) }
+    ensures lasts { LastsFrom S.Store map.now text.now store result.1
+        (Lasts S.Store map.now text.now result.1 result.0) }
     ensures fair { is_honest S.Store result.1 → is_honest S.Store store }
 {
     lawful_states_stay_lawful(map);
@@ -105,8 +105,8 @@ pub fn report_stored<S: Alter, W: Write>(
         (W.contents writer.new)) }
     ensures failed { IfErr result.0 IsReportFailure }
     ensures tells { TellsOfStore S.Store map.now text.now store result.1 result.0 }
-    ensures lasts { LastsFrom S.Store map.now store result.1
-        (Lasts S.Store map.now result.1 result.0) }
+    ensures lasts { LastsFrom S.Store map.now text.now store result.1
+        (Lasts S.Store map.now text.now result.1 result.0) }
     ensures fair { is_honest S.Store result.1 → is_honest S.Store store }
 {
     match SqlKeeper::open(alloc, store, map, text) {
@@ -140,8 +140,8 @@ pub(crate) fn serve_stored<S: Alter>(
         (IsNowOf S.Store store) count s result.1) }
     ensures failed { IfErr result.0 IsServeFailure }
     ensures tells { TellsOfStore S.Store map.now text.now store result.1 result.0 }
-    ensures lasts { LastsFrom S.Store map.now store result.1
-        (Lasts S.Store map.now result.1 result.0 ⊎ has_faulted S.Store store result.1) }
+    ensures lasts { LastsFrom S.Store map.now text.now store result.1
+        (Lasts S.Store map.now text.now result.1 result.0 ⊎ has_faulted S.Store store result.1) }
     ensures fair { is_honest S.Store result.1 → is_honest S.Store store }
 {
     let alloc = system.alloc();

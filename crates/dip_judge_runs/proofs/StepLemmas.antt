@@ -23,6 +23,7 @@ pub record GoesOn {K : Type 0} (m : Chart) (b : Book K) (input : List ℕ) (old 
   pub told : b.told old ≤ b.told new
   pub of_size : b.of_size old ≤ b.of_size new
   pub fair : b.honest new → b.honest old
+  pub same_map : b.map_sum new ≡ b.map_sum old
   pub opens : IsOpen m b old → b.honest new → IsOpen m b new
   pub turn : IsOpen m b old → b.honest new → IsTurn m input (b.content m old) (rows.reply reply) (b.content m new) after
   pub lawful : IsOpen m b old → b.honest new → IsLawful m (b.content m old) → IsLawful m (b.content m new)
@@ -35,6 +36,7 @@ stays m b input k reply after turn = record {
   told = omega arith;
   of_size = omega arith;
   fair = λ honest. honest;
+  same_map = refl;
   opens = λ it honest. it;
   turn = λ it honest. turn;
   lawful = λ it honest lawful. lawful;
@@ -48,6 +50,7 @@ goes_with m b old new reply after input (Taken l rest) laws is h = record {
   told = h.0.keeps.told;
   of_size = h.0.keeps.of_size;
   fair = h.0.keeps.fair;
+  same_map = h.0.keeps.same_map;
   opens = λ it honest. (steps_on m b old new (λ r. rows.reply r) _ _ (Ok reply) h.0 it honest).0;
   turn = λ it honest. (Taken l rest, is, ((steps_on m b old new (λ r. rows.reply r) _ _ (Ok reply) h.0 it honest).1, h.1));
   lawful = λ it honest lawful. laws (b.content m old) (mail l) (rows.reply reply) (b.content m new) is.0.fits lawful
@@ -65,6 +68,7 @@ goes_on m b old new reply after input laws h = goes_with m b old new reply after
 pub record Fails {K : Type 0} (m : Chart) (b : Book K) (input : List ℕ) (old new : K) (fault : RunFault) : Type 0 where
   pub kind : IsTakingFault fault
   pub fair : b.honest new → b.honest old
+  pub same_map : b.map_sum new ≡ b.map_sum old
   pub told : IsOpen m b old → b.honest new → fault ≡ Keep Disk → WasTold b old new
   pub never : IsOpen m b old → b.honest new → IsLawful m (b.content m old) → fault ≡ Keep Damaged → ⊥
   pub ends : IsOpen m b old → b.honest new → Ends m b old new (b.content m old) (TakesNext m input (b.content m old))
@@ -74,6 +78,7 @@ unasked : {K : Type 0} (m : Chart) (b : Book K) (input : List ℕ) (k : K) → F
 unasked m b input k = record {
   kind = tt;
   fair = λ honest. honest;
+  same_map = refl;
   told = λ it honest is. absurd (cc);
   never = λ it honest lawful is. cc;
   ends = λ it honest. ends_open m b k k _ it;
@@ -85,6 +90,7 @@ fails_with : {K : Type 0} (m : Chart) (b : Book K) (input : List ℕ) (old new :
 fails_with m b input old new fault (Taken l rest) sane is h = record {
   kind = tt;
   fair = h.keeps.fair;
+  same_map = h.keeps.same_map;
   told = λ it honest disk. let same : fault ≡ Disk = cc in h.failed it.sound honest it.shows (ap (λ (e : KeepFault). Err e) same);
   never = λ it honest lawful damaged.
       let same : fault ≡ Damaged = cc in

@@ -57,6 +57,7 @@ pub record AnswersInput {K : Type 0} (m : Chart) (b : Book K) (input : List ℕ)
   pub fault : IfErr result IsAnsweringFault
   pub count : b.faults new ≡ faults_after_run result (b.faults old)
   pub fair : b.honest new → b.honest old
+  pub same_map : b.map_sum new ≡ b.map_sum old
 
 -- how a run reads an input, takes each letter of it over a keeper, and writes its reply before the next
 pub record RunsFile {K : Type 0} (m : Chart) (b : Book K) (known left : Option (List ℕ)) (old new : K) (before after : Option (List ℕ))
@@ -75,3 +76,4 @@ pub record RunsFile {K : Type 0} (m : Chart) (b : Book K) (known left : Option (
   pub failed : IsOpen m b old → b.honest new → IsErrOf result (Keep Disk) → WasTold b old new
   pub count : b.faults new ≡ faults_after_run result (b.faults old)
   pub fair : b.honest new → b.honest old
+  pub same_map : b.map_sum new ≡ b.map_sum old

@@ -7,6 +7,7 @@ pub mod Finding
 pub mod Looking
 pub mod Authoring
 pub mod Made
+pub mod Marked
 pub mod Opened
 pub mod Outside
 pub mod Numbers

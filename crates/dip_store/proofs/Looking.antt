@@ -20,7 +20,7 @@ use Rattle.dip_store.specs.Faults.{row_fault}
 use Rattle.dip_store_memory.specs.Idle.{Idle, RecallsIdle}
 use Rattle.dip_store_memory.specs.Owns.{Owns, RecallsOwns}
 use Rattle.dip_store_memory.specs.Seen.{Parts, Recalls}
-use Rattle.dip_store.specs.Stored.{book, said_by, telling}
+use Rattle.dip_store.specs.Stored.{SaysMap, book, said_by, telling}
 use Rattle.dip_store.specs.declared.keeper.SqlKeeper.{SqlKeeper}
 use Rattle.dip_store.proofs.Outside.{look_blamed, look_outside}
 
@@ -31,10 +31,11 @@ module _ {S : Type 0} (g : Ghosts S) (m : Chart) (k : SqlKeeper S) (c : Held S) 
 
   abbrev Kept : Type 0
   Kept = IsKept g k.conn × AreOurs m (tables_in g k.conn) × Recalls (said_by m (state g k.conn).now.trees) k.seen × RecallsOwns (said_by m (state g k.conn).now.trees) k.owns × RecallsIdle (said_by m (state g k.conn).now.trees) k.idle
+      × SaysMap k.map_sum (state g k.conn).now.trees
 
   module _ {X E : Type 0} (r : Result X E) (p : Selects g k.conn c r) (kept : Kept) where
     sound_on : (seen : Parts) (owns : Owns) (idle : Idle) → Remembers seen owns idle → does_show g c
-        → IsKept g c × AreOurs m (tables_in g c) × Recalls (said_by m (state g c).now.trees) seen × RecallsOwns (said_by m (state g c).now.trees) owns × RecallsIdle (said_by m (state g c).now.trees) idle
+        → IsKept g c × AreOurs m (tables_in g c) × Recalls (said_by m (state g c).now.trees) seen × RecallsOwns (said_by m (state g c).now.trees) owns × RecallsIdle (said_by m (state g c).now.trees) idle × SaysMap k.map_sum (state g c).now.trees
     sound_on seen owns idle recalls shows =
         let same = sym (p.same kept.0 shows) in (
           p.kept kept.0 shows,
@@ -42,6 +43,7 @@ module _ {S : Type 0} (g : Ghosts S) (m : Chart) (k : SqlKeeper S) (c : Held S) 
           subst (λ (d : Database). Recalls (said_by m d.trees) seen) same recalls.0,
           subst (λ (d : Database). RecallsOwns (said_by m d.trees) owns) same recalls.1,
           subst (λ (d : Database). RecallsIdle (said_by m d.trees) idle) same recalls.2,
+          subst (λ (d : Database). SaysMap k.map_sum d.trees) same kept.5,
         )
 
     same_on : does_show g c → said_by m (state g c).now.trees ≡ said_by m (state g k.conn).now.trees
@@ -60,6 +62,7 @@ module _ {S : Type 0} (g : Ghosts S) (m : Chart) (k : SqlKeeper S) (c : Held S) 
       told = p.counts;
       of_size = omega arith;
       fair = p.fair;
+      same_map = refl;
       shown = p.shown;
       sound = λ kept shows. sound_on (went X E x) p kept seen owns idle (learns (kept.2, kept.3, kept.4) (value kept shows.0)) shows;
       firm = λ kept clean. sound_on (went X E x) p kept seen owns idle (learns (kept.2, kept.3, kept.4) (value kept clean)) (p.ok kept.0 clean);
@@ -88,6 +91,7 @@ module _ {S : Type 0} (g : Ghosts S) (m : Chart) (k : SqlKeeper S) (c : Held S) 
       told = p.counts;
       of_size = omega arith;
       fair = p.fair;
+      same_map = refl;
       shown = p.shown;
       sound = λ kept. sound_on (fails Y E e) p kept k.seen k.owns k.idle (kept.2, kept.3, kept.4);
       firm = λ kept clean. tt;
@@ -126,6 +130,7 @@ module _ {S : Type 0} (g : Ghosts S) (m : Chart) (k : SqlKeeper S) where
       told = omega arith;
       of_size = omega arith;
       fair = λ clean. clean;
+      same_map = refl;
       shown = λ shows. shows;
       sound = λ kept shows. kept;
       firm = λ kept clean. kept;
@@ -148,6 +153,7 @@ module _ {S : Type 0} (g : Ghosts S) (m : Chart) (k : SqlKeeper S) where
       told = omega arith;
       of_size = omega arith;
       fair = λ clean. clean;
+      same_map = refl;
       shown = λ shows. shows;
       sound = λ kept shows. kept;
       firm = λ kept clean. tt;

@@ -24,6 +24,7 @@ use Rattle.dip_store_tables.specs.Reading.{game_of}
 use Rattle.dip_store_tables.proofs.ListLemmas.{ascending-map}
 use Rattle.dip_store_tables.specs.ChangeColumns.{HasWidths, IsWritable}
 use Rattle.dip_store_sql.proofs.Keyed.{are_apart, are_keyed}
+use Rattle.dip_store_schema.specs.Desk.{DeskSays}
 use Rattle.dip_store_sql.specs.Calls.{IsKept, Lands, does_show, is_honest, tables_in}
 use Rattle.dip_store_sql.specs.Causes.{has_faulted}
 use Rattle.dip_store_sql.specs.Good.{IsGood}
@@ -42,7 +43,8 @@ use Rattle.dip_store_counts.specs.declared.known.KnownAuthor.{KnownAuthor}
 use Rattle.dip_store_memory.specs.Idle.{Idle, RecallsIdle}
 use Rattle.dip_store_memory.specs.Owns.{Owns, RecallsOwns, owns_of}
 use Rattle.dip_store_memory.specs.Seen.{DifferByName, Parts, Recalls}
-use Rattle.dip_store.specs.Stored.{AreStored, book, said_by, sized, sizing, telling}
+use Rattle.dip_store.proofs.Marked.{changed_says}
+use Rattle.dip_store.specs.Stored.{AreStored, SaysMap, book, said_by, sized, sizing, telling}
 use Rattle.dip_store.specs.declared.keeper.SqlKeeper.{SqlKeeper}
 use Rattle.dip_store.proofs.Outside.{make_caused, make_outside}
 use Rattle.dip_store_memory.proofs.Seeing.{Heeds}
@@ -79,6 +81,7 @@ module _ {S : Type 0} (g : Ghosts S) (m : Chart) (k : SqlKeeper S) (c : Change) 
 
   abbrev Keeps : Type 0
   Keeps = IsKept g k.conn × AreOurs m (tables_in g k.conn) × Recalls (said_by m (state g k.conn).now.trees) k.seen × RecallsOwns (said_by m (state g k.conn).now.trees) k.owns × RecallsIdle (said_by m (state g k.conn).now.trees) k.idle
+      × SaysMap k.map_sum (state g k.conn).now.trees
 
   -- what is known of the author is what the tables have of it
   pub knows : OwnIsFound m → IsAuthorOf m c.author → (known : Option KnownAuthor) → known ≡ known_among c.author (owns_of c.game k.owns) → Keeps → IsKeptFor g known m c k.conn
@@ -125,6 +128,7 @@ module _ {S : Type 0} (g : Ghosts S) (m : Chart) (k : SqlKeeper S) (c : Change) 
         told = p.counts;
         of_size = omega arith;
         fair = p.fair;
+        same_map = refl;
         shown = p.shown;
         sound = sound;
         firm = λ kept clean. sound kept (p.ok kept clean);
@@ -132,7 +136,8 @@ module _ {S : Type 0} (g : Ghosts S) (m : Chart) (k : SqlKeeper S) (c : Change) 
         shuts = p.closes;
         again = λ kept clean shows takes db may.
             let still = sound kept (p.ok kept clean) in
-            ((state g new).now, sym (p.kept kept clean db may), record { good = still.0.good; counted = still.0.counted; ours = still.1 });
+            let there = sym (p.kept kept clean db may) in
+            (((state g new).now, there, record { good = still.0.good; counted = still.0.counted; ours = still.1 }), subst (SaysMap k.map_sum) there still.5);
       };
       done = λ kept shows. let is = p.done kept shows in said kept is.0.good is.1;
       undone = λ kept shows. tt;
@@ -145,6 +150,7 @@ module _ {S : Type 0} (g : Ghosts S) (m : Chart) (k : SqlKeeper S) (c : Change) 
       where
         sound : Keeps → does_show g new
             → IsKept g new × AreOurs m (tables_in g new) × Recalls (said_by m (state g new).now.trees) later × RecallsOwns (said_by m (state g new).now.trees) owns × RecallsIdle (said_by m (state g new).now.trees) idle
+            × SaysMap k.map_sum (state g new).now.trees
         sound kept shows =
             let is = p.done kept shows in
             let before = said_by m (state g k.conn).now.trees in
@@ -155,22 +161,27 @@ module _ {S : Type 0} (g : Ghosts S) (m : Chart) (k : SqlKeeper S) (c : Change) 
               subst (λ (s : State). Recalls s later) (sym said_after) (notes before kept.2 (heeds before kept.2).1 apart),
               subst (λ (s : State). RecallsOwns s owns) (sym said_after) (follows before kept.3),
               subst (λ (s : State). RecallsIdle s idle) (sym said_after) (stills before kept.4 apart),
+              subst (DeskSays 2 k.map_sum) (sym is.1) (changed_says m c k.map_sum (tables_in g k.conn) kept.5),
             )
 
     -- what a crash may leave of a change that isn't made can be opened again
     abbrev LandsWell : Type 0
     LandsWell = Keeps → is_honest g new → (db : Trees) → (state g new).may_leave db → (state g k.conn).may_leave db ⊎ HasPlace m c (tables_in g k.conn)
 
-    stored : HasTexts c → TablesStayLegible m → TablesStayCounted m → (kept : Keeps) → HasPlace m c (tables_in g k.conn) → (db : Trees) → Lands (changing m c) (state g k.conn) db → AreStored m db
+    stored : HasTexts c → TablesStayLegible m → TablesStayCounted m → (kept : Keeps) → HasPlace m c (tables_in g k.conn) → (db : Trees) → Lands (changing m c) (state g k.conn) db
+        → AreStored m db × SaysMap k.map_sum db
     stored texts legible counted kept place db lands =
         let is = lands.1 kept.0.good in (
-          lands.0,
-          sym lands.2,
-          record {
-            good = is.0;
-            counted = subst AreCounted (sym is.1) (counted c (tables_in g k.conn) place.paper kept.0.counted (are_apart (state g k.conn).now kept.0.good) (subst AreApart is.1 (are_apart lands.0 is.0)));
-            ours = ours_of kept texts legible place lands.0 is.0 is.1;
-          },
+          (
+            lands.0,
+            sym lands.2,
+            record {
+              good = is.0;
+              counted = subst AreCounted (sym is.1) (counted c (tables_in g k.conn) place.paper kept.0.counted (are_apart (state g k.conn).now kept.0.good) (subst AreApart is.1 (are_apart lands.0 is.0)));
+              ours = ours_of kept texts legible place lands.0 is.0 is.1;
+            },
+          ),
+          subst (SaysMap k.map_sum) (sym lands.2) (subst (DeskSays 2 k.map_sum) (sym is.1) (changed_says m c k.map_sum (tables_in g k.conn) kept.5)),
         )
 
     -- what is remembered where a change isn't made
@@ -187,6 +198,7 @@ module _ {S : Type 0} (g : Ghosts S) (m : Chart) (k : SqlKeeper S) (c : Change) 
         told = p.counts;
         of_size = sizes;
         fair = p.fair;
+        same_map = refl;
         shown = p.shown;
         sound = λ kept shows.
             let is = p.undone kept shows in (
@@ -195,6 +207,7 @@ module _ {S : Type 0} (g : Ghosts S) (m : Chart) (k : SqlKeeper S) (c : Change) 
               subst (λ (d : Database). Recalls (said_by m d.trees) seen) (sym is.1) (heeds (said_by m (state g k.conn).now.trees) kept.2).0,
               subst (λ (d : Database). RecallsOwns (said_by m d.trees) owns) (sym is.1) ((remembered (said_by m (state g k.conn).now.trees)).0 kept.3),
               subst (λ (d : Database). RecallsIdle (said_by m d.trees) idle) (sym is.1) ((remembered (said_by m (state g k.conn).now.trees)).1 kept.4),
+              subst (λ (d : Database). SaysMap k.map_sum d.trees) (sym is.1) kept.5,
             );
         firm = λ kept clean. tt;
         stays_open = λ kept clean shows. tt;
@@ -253,6 +266,7 @@ module _ {S : Type 0} (g : Ghosts S) (m : Chart) (k : SqlKeeper S) (c : Change) 
       told = omega arith;
       of_size = omega arith;
       fair = λ clean. clean;
+      same_map = refl;
       shown = λ shows. shows;
       sound = λ kept shows. kept;
       firm = λ kept clean. tt;

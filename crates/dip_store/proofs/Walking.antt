@@ -32,6 +32,7 @@ module _ {K : Type 0} (m : Chart) (b : Book K) where
     count = refl;
     told = omega arith;
     fair = λ h. h;
+    same_map = refl;
     shown = λ h. h;
     sound = λ s h. s;
     same = λ s h. refl;
@@ -59,6 +60,7 @@ module _ {K : Type 0} (m : Chart) (b : Book K) where
       count = look.keeps.count ∙ so_far.count;
       told = omega (arith, so_far.told, look.keeps.told);
       fair = λ h. so_far.fair (look.keeps.fair h);
+      same_map = look.keeps.same_map ∙ so_far.same_map;
       shown = λ h. so_far.shown (look.keeps.shown h);
       sound = λ s h. look.keeps.sound (so_far.sound s (look.keeps.shown h)) h;
       same = λ s h. look.same (so_far.sound s (look.keeps.shown h)) h ∙ so_far.same s (look.keeps.shown h);
@@ -75,6 +77,7 @@ module _ {K : Type 0} (m : Chart) (b : Book K) where
       count = look.keeps.count ∙ ap (faults_with f) so_far.count;
       told = omega (arith, so_far.told, look.keeps.told);
       fair = λ h. so_far.fair (look.keeps.fair h);
+      same_map = look.keeps.same_map ∙ so_far.same_map;
       shown = λ h. so_far.shown (look.keeps.shown h);
       sound = λ s h. look.keeps.sound (so_far.sound s (look.keeps.shown h)) h;
       same = λ s h. look.same (so_far.sound s (look.keeps.shown h)) h ∙ so_far.same s (look.keeps.shown h);
@@ -117,7 +120,7 @@ module _ {K : Type 0} (m : Chart) (b : Book K) where
 
   -- a writer's fault is none of the keeper
   pub breaks_off : (X Z : Type 0) (x : X) (a c : K) → Walks m b a c (went X x) → Walks m b a c (stopped Z Write)
-  breaks_off X Z x a c w = record { count = w.count; told = w.told; fair = w.fair; shown = w.shown; sound = w.sound; same = w.same; firm = w.firm; stays_open = w.stays_open; shuts = w.shuts; failed = λ s h o bad. absurd (cc); left = w.left; again = w.again }
+  breaks_off X Z x a c w = record { count = w.count; told = w.told; fair = w.fair; same_map = w.same_map; shown = w.shown; sound = w.sound; same = w.same; firm = w.firm; stays_open = w.stays_open; shuts = w.shuts; failed = λ s h o bad. absurd (cc); left = w.left; again = w.again }
 
   -- nor are more papers than a game may have
   pub damages : (X : Type 0) (x : X) (a c : K) → Walks m b a c (went X x) → Walks m b a c (stopped X (Keep Damaged))
@@ -125,6 +128,7 @@ module _ {K : Type 0} (m : Chart) (b : Book K) where
     count = w.count;
     told = w.told;
     fair = w.fair;
+    same_map = w.same_map;
     shown = w.shown;
     sound = w.sound;
     same = w.same;
@@ -148,6 +152,7 @@ module _ {K : Type 0} (m : Chart) (b : Book K) where
       failed = λ it h bad. absurd (cc);
       count = w.count;
       fair = w.fair;
+      same_map = w.same_map;
     }
 
     -- or up to a fault
@@ -161,6 +166,7 @@ module _ {K : Type 0} (m : Chart) (b : Book K) where
       failed = λ it h bad. w.failed it.sound h it.shows bad;
       count = w.count;
       fair = w.fair;
+      same_map = w.same_map;
     }
 
     -- they are written from the keeper that a look left as it was
@@ -173,6 +179,7 @@ module _ {K : Type 0} (m : Chart) (b : Book K) where
       failed = λ was_open h bad. omega (arith, it.failed (on was_open h) h bad, w.told);
       count = it.count ∙ ap (faults_told r) w.count;
       fair = λ h. w.fair (it.fair h);
+      same_map = it.same_map ∙ w.same_map;
     }
       where
         on : IsOpen m b a → b.honest d → IsOpen m b c

@@ -20,7 +20,7 @@ use Rattle.dip_store_sql.specs.Creating.{no_schema}
 use Rattle.dip_store_sql.specs.Old.{old_tables_of}
 use Rattle.dip_store_sql.specs.Rows.{tables_of}
 use Rattle.dip_store_sql.specs.TablesAfter.{is_first}
-use Rattle.dip_store.specs.Stored.{AreStored, IsStore, IsStoreOf, book, said_by}
+use Rattle.dip_store.specs.Stored.{AreStored, IsStore, IsStoreOf, SaysMap, book, said_by}
 use Rattle.dip_store.specs.declared.keeper.SqlKeeper.{SqlKeeper}
 
 -- keepers of this version, or of version 1 alone, wrote the database by the map, and its rows say
@@ -28,9 +28,17 @@ use Rattle.dip_store.specs.declared.keeper.SqlKeeper.{SqlKeeper}
 abbrev pub Says : Chart → State → Database → Type 0
 Says m s db = IsStoreOf m s db ⊎ (IsOldStore m db × (old_said_by m db.trees ≡ s))
 
--- it was so before, or it is of this version and says the state
+-- a database of version 1 was made this one of version 2, which says the state, and the same map
+pub record IsRenewedFrom (m : Chart) (s : State) (before db : Database) : Type 0 where
+  pub was : IsOldStore m before
+  pub says : IsStoreOf m s db
+  pub map_is : (map_sum : List ℕ) → DeskSays 1 map_sum (old_tables_of before.trees)
+      → SaysMap map_sum db.trees
+
+-- it was so before, or it was renewed from one that was so
 abbrev pub IsSameOrRenewed : Chart → State → (Database → Type 0) → Database → Type 0
-IsSameOrRenewed m s Was db = Was db ⊎ IsStoreOf m s db
+IsSameOrRenewed m s Was db =
+    Was db ⊎ ((before : Database) × Was before × IsRenewedFrom m s before db)
 
 -- the trees are those of such a database
 abbrev pub AreOf : (Database → Type 0) → Trees → Type 0
@@ -89,11 +97,25 @@ pub record Opens {S : Type 0} (g : Ghosts S) (m : Chart) (s : State) (k : SqlKee
   pub only : (left : State) → (book g).may_leave m k left → left ≡ s
   pub again : (book g).again m k
 
+-- the master's row of trees says the map of this text
+abbrev pub SayText : List ℕ → Trees → Type 0
+SayText text trees = SaysMap (sha256 text) trees
+
+-- that of a store does
+abbrev pub SaysText : {S : Type 0} → Ghosts S → List ℕ → Held S → Type 0
+SaysText g text store = SayText text (state g store).now.trees
+
+-- and that of whatever a crash leaves of it
+abbrev pub LeavesText : {S : Type 0} → Ghosts S → List ℕ → Held S → Type 0
+LeavesText g text store =
+    (trees : Trees) → (state g store).may_leave trees → SayText text trees
+
 -- what an open after a crash may find of a store in which a desk is made: what it might have found before, or, of an empty one, a
--- store that says the new desk
-abbrev pub MayFound : {S : Type 0} → Ghosts S → Chart → State → Held S → Held S → Type 0
-MayFound g m s old new = is_honest g new → (db : Trees) → (state g new).may_leave db
-    → (state g old).may_leave db ⊎ (((state g old).now.schema ≡ no_schema) × AreOf (IsStoreOf m s) db)
+-- store that says the new desk and its map
+abbrev pub MayFound : {S : Type 0} → Ghosts S → Chart → List ℕ → State → Held S → Held S → Type 0
+MayFound g m text s old new = is_honest g new → (db : Trees) → (state g new).may_leave db
+    → (state g old).may_leave db
+    ⊎ (((state g old).now.schema ≡ no_schema) × AreOf (IsStoreOf m s) db × SayText text db)
 
 -- a desk without a game, whose master's secret has this digest
 abbrev pub new_desk : List ℕ → State
@@ -134,6 +156,7 @@ pub record OpensStore {S : Type 0} (g : Ghosts S) (m : Chart) (text : List ℕ) 
     (result : Result (SqlKeeper S) (StoreFault × Held S)) : Type 0 where
   pub opened : IfOk result (λ k. is_honest g k.conn → (s : State)
       → Says m s (state g store).now → Opens g m s k)
+  pub of_map : IfOk result (λ k. (book g).map_sum k ≡ sha256 text)
   pub told : IfOk result (λ k. (book g).faults k ≡ 0)
   pub made : IfOk result (λ k. is_honest g k.conn
       → IsMadeFor m (sha256 text) (state g store).now)
@@ -188,14 +211,11 @@ pub record IsUnmadeBy {S : Type 0} (g : Ghosts S) (store new : Held S) (fault : 
   pub caused : is_honest g new → does_show g store → fault ≡ faults.Disk
       → IsTrue store.in_transaction ⊎ has_faulted g store new
 
--- the master's row of a store says the map of this text
-abbrev pub SaysText : {S : Type 0} → Ghosts S → List ℕ → Held S → Type 0
-SaysText g text store = DeskSays 2 (sha256 text) (tables_of (state g store).now.trees)
-
 -- how a desk's tables are made in a store, whose text is this map's and whose master's digest is this one
 pub record MakesStore {S : Type 0} (g : Ghosts S) (m : Chart) (text digest : List ℕ) (store : Held S)
     (result : Result (SqlKeeper S) (StoreFault × Held S)) : Type 0 where
   pub opened : IfOk result (λ k. is_honest g k.conn → Opens g m (new_desk digest) k)
+  pub of_map : IfOk result (λ k. (book g).map_sum k ≡ sha256 text)
   pub told : IfOk result (λ k. (book g).faults k ≡ 0)
   pub made : IfOk result (λ k. is_honest g k.conn → SaysText g text k.conn)
   pub empty : IfOk result (λ _. (state g store).now.schema ≡ no_schema)
@@ -205,4 +225,4 @@ pub record MakesStore {S : Type 0} (g : Ghosts S) (m : Chart) (text digest : Lis
   pub caused : IfErr result (λ e. is_honest g e.1 → does_show g store → e.0 ≡ faults.Disk → IsTrue store.in_transaction ⊎ has_faulted g store e.1)
   pub same : IfErr result (λ e. does_show g e.1 → (state g e.1).committed ≡ (state g store).committed)
   pub fair : is_honest g (store_in result) → is_honest g store
-  pub crash : MayFound g m (new_desk digest) store (store_in result)
+  pub crash : MayFound g m text (new_desk digest) store (store_in result)

@@ -56,6 +56,7 @@ pub record Walks {K X : Type 0} (m : Chart) (b : Book K) (old new : K) (result :
   pub count : b.faults new ≡ faults_told result (b.faults old)
   pub told : b.told old ≤ b.told new
   pub fair : b.honest new → b.honest old
+  pub same_map : b.map_sum new ≡ b.map_sum old
   pub shown : b.shows new → b.shows old
   pub sound : b.sound m old → b.shows new → b.sound m new
   pub same : b.sound m old → b.shows new → b.content m new ≡ b.content m old
@@ -84,3 +85,4 @@ pub record WritesPapers {K X : Type 0} (m : Chart) (b : Book K) (game : List ℕ
   pub failed : IsOpen m b old → b.honest new → IsErrOf result (Keep Disk) → Rises (b.told old) (b.told new)
   pub count : b.faults new ≡ faults_told result (b.faults old)
   pub fair : b.honest new → b.honest old
+  pub same_map : b.map_sum new ≡ b.map_sum old

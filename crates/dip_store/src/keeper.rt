@@ -40,6 +40,8 @@ use std::rc::Rc;
 pub struct SqlKeeper<S: Alter> {
     pub(crate) alloc: Global,
     pub(crate) conn: Connection<S>,
+    /// The sum of the map's text that the store was made with.
+    pub(crate) map_sum: [u8; 32],
     /// How many faults of the disk it has told of.
     pub(crate) failures: u64,
     /// How many faults of size its store has told it of: a row that is too long to be stored, or no number left for one. Only
@@ -61,6 +63,7 @@ impl<S: Alter> SqlKeeper<S> {
         let SqlKeeper {
             alloc: _,
             conn,
+            map_sum: _,
             failures: _,
             of_size: _,
             seen: _,

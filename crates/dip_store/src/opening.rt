@@ -25,13 +25,14 @@ fn commits_last<S: Alter>(conn: &Connection<S>)
 {}
 
 impl<S: Alter> SqlKeeper<S> {
-    /// The keeper of a connection's rows.
-    fn over(alloc: Global, conn: Connection<S>) -> SqlKeeper<S>
-        ensures { result ≡ fresh_keeper alloc conn }
+    /// The keeper of a connection's rows, which were made with a map's text of this sum.
+    fn over(alloc: Global, conn: Connection<S>, map_sum: [u8; 32]) -> SqlKeeper<S>
+        ensures { result ≡ fresh_keeper alloc conn map_sum }
     {
         SqlKeeper {
             alloc,
             conn,
+            map_sum,
             failures: 0,
             of_size: 0,
             seen: SeenGames::new(alloc),
@@ -69,10 +70,11 @@ impl<S: Alter> SqlKeeper<S> {
         if !knows_none(&conn) {
             return Err((StoreFault::OtherSchema, conn));
         }
-        match set_up_tables(&mut conn, &sum(map_text.as_bytes()), digest) {
+        let map_sum = sum(map_text.as_bytes());
+        match set_up_tables(&mut conn, &map_sum, digest) {
             Ok(()) => {
                 commits_last(&conn);
-                Ok(SqlKeeper::over(alloc, conn))
+                Ok(SqlKeeper::over(alloc, conn, map_sum))
             }
             Err(error) => Err((open_fault(error), conn)),
         }
@@ -98,7 +100,7 @@ impl<S: Alter> SqlKeeper<S> {
         match renew(&mut conn, alloc) {
             Ok(()) => {
                 commits_last(&conn);
-                Ok(SqlKeeper::over(alloc, conn))
+                Ok(SqlKeeper::over(alloc, conn, sum(map_text.as_bytes())))
             }
             Err(fault) => Err((fault, conn)),
         }
@@ -120,7 +122,7 @@ impl<S: Alter> SqlKeeper<S> {
         match check_desk(&mut conn, map_text) {
             Ok(()) => {
                 commits_last(&conn);
-                Ok(SqlKeeper::over(alloc, conn))
+                Ok(SqlKeeper::over(alloc, conn, sum(map_text.as_bytes())))
             }
             Err(fault) => Err((fault, conn)),
         }

@@ -9,6 +9,7 @@ clients-init g c = record {
   most = omega arith;
   count = refl;
   fair = λ honest. honest;
+  same_map = refl;
   told = omega arith;
   of_size = omega arith;
   ends = λ it honest. meets_none c.args.map.now g.K.Keeper.book c.args.keeper.now it;
@@ -32,6 +33,7 @@ returns g c =
       shut = tt;
       count = i.count;
       fair = i.fair;
+      same_map = i.same_map;
     }
 
 pub returns-in_err-serve_next : goal.returns-in_err-serve_next
@@ -61,6 +63,7 @@ returns-in_err-serve_next g c =
       shut = call.shut;
       count = search rules;
       fair = λ honest. i.fair (call.fair honest);
+      same_map = call.same_map ∙ i.same_map;
     }
 
 pub clients-preserved : goal.clients-preserved
@@ -73,6 +76,7 @@ clients-preserved g c =
       most = omega (arith, c.clients-test.true);
       count = c.in_ok-serve_next.ensures.count ∙ before.count;
       fair = λ honest. before.fair (call.fair honest);
+      same_map = call.same_map ∙ before.same_map;
       told = omega (arith, before.told, call.told);
       of_size = omega (arith, before.of_size, call.of_size);
       ends = λ it honest. meets_next m b c.clients.served c.args.keeper.now c.clients.keeper c.serve_next.new.keeper (before.ends it (call.fair honest)) before.told call.told (λ mid. call.ends mid honest);

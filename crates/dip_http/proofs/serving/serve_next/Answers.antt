@@ -13,5 +13,6 @@ returns-in_default g c = record {
   told = search rules;
   of_size = search rules;
   fair = search rules;
+  same_map = search rules;
   shown = search rules;
 }

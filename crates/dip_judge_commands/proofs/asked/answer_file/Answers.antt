@@ -38,4 +38,4 @@ returns-in-Ok-clause-tells g c =
 pub returns-in-Ok-clause-lasts : goal.returns-in-Ok-clause-lasts
 returns-in-Ok-clause-lasts g c =
     let call = c.answer_stored-answered in
-    lasts_in (image_at g.S.Start) c.args.map.now c.in-Ok.store c.in-Ok.ensures.opened c.in-Ok.ensures.found call.result.1 call.ensures.fair _ call.ensures.lasts
+    lasts_in (image_at g.S.Start) c.args.map.now c.in-Ok.store c.in-Ok.ensures.opened c.in-Ok.ensures.found call.result.1 call.ensures.fair c.args.text.now _ call.ensures.lasts

@@ -30,15 +30,11 @@ returns-in-Ok-read_map-clause-lasts g c =
     (λ store lasts. (
       c.in-Ok.args,
       c.in-Ok-read_map.map,
-      (
-        c.in-Ok.ensures.given,
-        c.in-Ok.ensures.checks,
-        (
-          c.text_said.result.now,
-          subst (λ (path : Option (List ℕ)). IsMapOf STANDARD.now path c.text_said.result.now c.in-Ok-read_map.map) c.map.ensures
-              (subst (λ (text : List ℕ). IsMapOf STANDARD.now (option_map (λ p. p.now) c.map.result) text c.in-Ok-read_map.map) (sym c.text_said.ensures) c.in-Ok-read_map.ensures.map),
-        ),
-      ),
+      c.text_said.result.now,
+      c.in-Ok.ensures.given,
+      c.in-Ok.ensures.checks,
+      subst (λ (path : Option (List ℕ)). IsMapOf STANDARD.now path c.text_said.result.now c.in-Ok-read_map.map) c.map.ensures
+          (subst (λ (text : List ℕ). IsMapOf STANDARD.now (option_map (λ p. p.now) c.map.result) text c.in-Ok-read_map.map) (sym c.text_said.ensures) c.in-Ok-read_map.ensures.map),
       lasts,
     ))
 

@@ -62,19 +62,19 @@ returns-in-Report-clause-tells g c =
 pub returns-in-Init-clause-lasts : goal.returns-in-Init-clause-lasts
 returns-in-Init-clause-lasts g c =
     lasts_as over_files (image_at g.S.Start) c.args.map.now (g.R.Read.remaining c.args.reader.now) (g.R.Read.remaining c.args.reader.now) (g.W.Write.contents c.args.writer.now) (g.W.Write.contents c.args.writer.now)
-    c.args.args.now _ c.in-Init.is c.init_file.result.1 c.init_file.result.0 c.init_file.ensures.lasts
+    c.args.args.now _ c.in-Init.is c.init_file.result.1 c.init_file.result.0 c.args.text.now c.init_file.ensures.lasts
 
 pub returns-in-Stored-clause-lasts : goal.returns-in-Stored-clause-lasts
 returns-in-Stored-clause-lasts g c =
     lasts_as over_files (image_at g.S.Start) c.args.map.now (g.R.Read.remaining c.args.reader.now) (g.R.Read.remaining c.answer_file.new.reader) (g.W.Write.contents c.args.writer.now) (g.W.Write.contents c.answer_file.new.writer)
-    c.args.args.now _ c.in-Stored.is c.answer_file.result.1 c.answer_file.result.0 c.answer_file.ensures.lasts
+    c.args.args.now _ c.in-Stored.is c.answer_file.result.1 c.answer_file.result.0 c.args.text.now c.answer_file.ensures.lasts
 
 pub returns-in-Serve-clause-lasts : goal.returns-in-Serve-clause-lasts
 returns-in-Serve-clause-lasts g c =
     lasts_as over_files (image_at g.S.Start) c.args.map.now (g.R.Read.remaining c.args.reader.now) (g.R.Read.remaining c.args.reader.now) (g.W.Write.contents c.args.writer.now) (g.W.Write.contents c.args.writer.now)
-    c.args.args.now _ c.in-Serve.is c.serve_file.result.1 c.serve_file.result.0 c.serve_file.ensures.lasts
+    c.args.args.now _ c.in-Serve.is c.serve_file.result.1 c.serve_file.result.0 c.args.text.now c.serve_file.ensures.lasts
 
 pub returns-in-Report-clause-lasts : goal.returns-in-Report-clause-lasts
 returns-in-Report-clause-lasts g c =
     lasts_as over_files (image_at g.S.Start) c.args.map.now (g.R.Read.remaining c.args.reader.now) (g.R.Read.remaining c.args.reader.now) (g.W.Write.contents c.args.writer.now) (g.W.Write.contents c.report_file.new.writer)
-    c.args.args.now _ c.in-Report.is c.report_file.result.1 c.report_file.result.0 c.report_file.ensures.lasts
+    c.args.args.now _ c.in-Report.is c.report_file.result.1 c.report_file.result.0 c.args.text.now c.report_file.ensures.lasts

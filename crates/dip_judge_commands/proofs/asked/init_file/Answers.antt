@@ -14,4 +14,4 @@ pub returns-in-Ok-default-clause-lasts : goal.returns-in-Ok-default-clause-lasts
 returns-in-Ok-default-clause-lasts g c clean =
     let m = c.args.map.now in
     let made = rw c.in-Ok-default.is-0 at (c.make_desk.ensures.made clean) in
-    holds_lawful over_files m (fresh_desk c.args.master.now) _ (c.new_desks_are_lawful.ensures m _) made.0
+    holds_lawful over_files m c.args.text.now (fresh_desk c.args.master.now) _ (c.new_desks_are_lawful.ensures m _) made.2 made.0

@@ -44,4 +44,4 @@ returns-in-Ok-clause-tells g c =
 pub returns-in-Ok-clause-lasts : goal.returns-in-Ok-clause-lasts
 returns-in-Ok-clause-lasts g c =
     let call = c.serve_stored-served in
-    lasts_serving (image_at g.S.Start) c.args.map.now c.in-Ok.store c.in-Ok.ensures.opened c.in-Ok.ensures.found call.result.1 call.ensures.fair call.result.0 call.ensures.lasts
+    lasts_serving (image_at g.S.Start) c.args.map.now c.in-Ok.store c.in-Ok.ensures.opened c.in-Ok.ensures.found call.result.1 call.ensures.fair c.args.text.now call.result.0 call.ensures.lasts

@@ -3,6 +3,7 @@ use Rattle.dip_desk_machine.specs.Lawful.{IsLawful}
 use Rattle.dip_store.specs.declared.paper_faults.PaperFault.{PaperFault}
 use Rattle.dip_judge_commands.proofs.LastingLemmas.{damage_papers, ends_lawful, few_papers, holds_lawful, shut_lawful}
 use Rattle.dip_judge_commands.proofs.StoredLemmas.{breaks_off, ends_still, holds_still, is_open, reports, reports_none, shut_by}
+use Rattle.dip_store.proofs.Opened.{leaves_text}
 use Rattle.dip_store.specs.Opening.{IsNowOf}
 use Rattle.dip_judge_commands.proofs.stored.report_stored.Goals as goal
 
@@ -61,20 +62,20 @@ returns-in-Ok-Some-clause-lasts g c =
     let m = c.args.map.now in
     let k = c.in-Ok.keeper in
     rw c.into_store.ensures
-    (λ clean s desk law.
+    (λ clean s desk law made.
     let opened = c.in-Ok.ensures.opened (c.write_papers.ensures.fair clean) s desk.says in
     let goes = c.in-Ok-Some.ensures.goes (is_open g.S.Store m s k opened) clean in
-    record { never = tt; left = holds_lawful g.S.Store m s _ law (holds_still g.S.Store m s k c.write_papers.new.self opened goes.0 goes.1) })
+    record { never = tt; left = holds_lawful g.S.Store m c.args.text.now s _ law (leaves_text g.S.Store m c.args.text.now k c.write_papers.new.self c.in-Ok.ensures.of_map c.write_papers.ensures.same_map goes.0.again) (holds_still g.S.Store m s k c.write_papers.new.self opened goes.0 goes.1) })
 
 pub returns-in-Ok-None-clause-lasts : goal.returns-in-Ok-None-clause-lasts
 returns-in-Ok-None-clause-lasts g c =
     let m = c.args.map.now in
     let k = c.in-Ok.keeper in
     rw c.into_store-in-Ok-None.ensures
-    (λ clean s desk law.
+    (λ clean s desk law made.
     let opened = c.in-Ok.ensures.opened (c.write_papers.ensures.fair clean) s desk.says in
     let goes = c.in-Ok-None.ensures.goes (is_open g.S.Store m s k opened) clean in
-    record { never = λ bad. bad; left = holds_lawful g.S.Store m s _ law (holds_still g.S.Store m s k c.write_papers.new.self opened goes.0 goes.1) })
+    record { never = λ bad. bad; left = holds_lawful g.S.Store m c.args.text.now s _ law (leaves_text g.S.Store m c.args.text.now k c.write_papers.new.self c.in-Ok.ensures.of_map c.write_papers.ensures.same_map goes.0.again) (holds_still g.S.Store m s k c.write_papers.new.self opened goes.0 goes.1) })
 
 pub returns-in-Err-write_papers-clause-lasts : goal.returns-in-Err-write_papers-clause-lasts
 returns-in-Err-write_papers-clause-lasts g c =
@@ -82,7 +83,7 @@ returns-in-Err-write_papers-clause-lasts g c =
     let k = c.in-Ok.keeper in
     let fault = c.in-Err-write_papers.fault in
     rw c.into_store-in-Err-write_papers.ensures
-    (λ clean s desk law.
+    (λ clean s desk law made.
     let opened = c.in-Ok.ensures.opened (c.write_papers.ensures.fair clean) s desk.says in
     let still = is_open g.S.Store m s k opened in
     let ends = breaks_off g.S.Store m c.args.game.now (IsNowOf g.S.Store c.args.store) c.args.store s k c.write_papers.new.self fault _ _ opened c.in-Ok.ensures.counted
@@ -90,11 +91,12 @@ returns-in-Err-write_papers-clause-lasts g c =
     record {
       never = λ bad. few_papers m _ c.args.game.now (subst (IsLawful m) (sym opened.says) law)
           (c.in-Err-write_papers.ensures.damaged still clean (ap (λ (f : PaperFault). Err f) (damage_papers fault bad)));
-      left = ends_lawful g.S.Store m _ s (λ _. ⊥) _ law (λ t none. absurd none) ends.1;
+      left = ends_lawful g.S.Store m c.args.text.now _ s (λ _. ⊥) _ law (λ t none. absurd none)
+          (leaves_text g.S.Store m c.args.text.now k c.write_papers.new.self c.in-Ok.ensures.of_map c.write_papers.ensures.same_map (c.in-Err-write_papers.ensures.ends still clean).ends.again) ends.1;
     })
 
 pub returns-in-Err-clause-lasts : goal.returns-in-Err-clause-lasts
-returns-in-Err-clause-lasts g c = λ honest s desk law. record {
+returns-in-Err-clause-lasts g c = λ honest s desk law made. record {
   never = λ bad. bad;
-  left = shut_lawful g.S.Store c.args.map.now _ s c.args.store _ law desk.says (c.in-Err.ensures.ends honest s desk);
+  left = shut_lawful g.S.Store c.args.map.now c.args.text.now _ s c.args.store _ law desk.says made (c.in-Err.ensures.ends honest s desk);
 }

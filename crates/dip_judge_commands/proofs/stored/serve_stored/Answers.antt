@@ -1,7 +1,8 @@
-use Rattle.std.proofs.Common.{inl, subst, sym}
+use Rattle.std.proofs.Common.{inl, refl, subst, sym}
 use Rattle.dip_desk_machine.specs.Lawful.{IsLawful}
-use Rattle.dip_judge_commands.proofs.LastingLemmas.{both_last, holds_lawful, served_last, serving_last, shut_lawful, undamaged}
+use Rattle.dip_judge_commands.proofs.LastingLemmas.{both_last, clients_text, holds_lawful, served_last, serving_last, shut_lawful, some_text, undamaged}
 use Rattle.dip_judge_commands.proofs.StoredLemmas.{ends_still, holds, is_open, serves_from, serves_up_to, shut_by}
+use Rattle.dip_store.proofs.Opened.{leaves_text}
 use Rattle.dip_judge_commands.proofs.stored.serve_stored.Goals as goal
 
 pub returns-in-Ok-serve_all-clause-done : goal.returns-in-Ok-serve_all-clause-done
@@ -60,10 +61,13 @@ returns-in-Ok-serve_all-clause-lasts g c =
     let m = c.args.map.now in
     let k = c.in-Ok.keeper in
     rw c.into_store-in-Ok-serve_all.ensures
-    (λ clean s desk law.
+    (λ clean s desk law made.
     let opened = c.in-Ok.ensures.opened (c.serve_all.ensures.fair clean) s desk.says in
-    both_last g.S.Store m _ _ _ (inl tt)
-    (served_last g.S.Store m c.lawful_states_stay_lawful.ensures.stays s _ law _ c.args.count
+    both_last g.S.Store m c.args.text.now _ _ _ (inl tt)
+    (served_last g.S.Store m c.args.text.now c.lawful_states_stay_lawful.ensures.stays s _ law _ c.args.count
+    (clients_text g.S.Store m c.args.text.now c.args.store k c.serve_all.new.keeper
+    (leaves_text g.S.Store m c.args.text.now k c.serve_all.new.keeper c.in-Ok.ensures.of_map c.serve_all.ensures.same_map)
+    c.args.count c.in-Ok.ensures.counted (c.in-Ok-serve_all.ensures.goes (is_open g.S.Store m s k opened) clean))
     (serves_from g.S.Store m c.args.store c.args.count s k c.serve_all.new.keeper opened c.in-Ok.ensures.counted
     (c.in-Ok-serve_all.ensures.goes (is_open g.S.Store m s k opened) clean))))
 
@@ -72,13 +76,16 @@ returns-clause-lasts g c =
     let m = c.args.map.now in
     let k = c.in-Ok.keeper in
     rw c.into_store-in-Err-serve_all.ensures
-    (λ clean s desk law.
+    (λ clean s desk law made.
     let opened = c.in-Ok.ensures.opened (c.serve_all.ensures.fair clean) s desk.says in
     let still = is_open g.S.Store m s k opened in
-    both_last g.S.Store m _ _ _
-    (undamaged g.S.Store m c.args.store c.args.count k c.serve_all.new.keeper _ c.in-Ok.ensures.counted c.in-Err-serve_all.ensures still clean
+    both_last g.S.Store m c.args.text.now _ _ _
+    (undamaged g.S.Store m c.args.text.now c.args.store c.args.count k c.serve_all.new.keeper _ c.in-Ok.ensures.counted c.in-Err-serve_all.ensures still clean
     (subst (IsLawful m) (sym opened.says) law))
-    (serving_last g.S.Store m c.lawful_states_stay_lawful.ensures.stays s _ law _ c.args.count
+    (serving_last g.S.Store m c.args.text.now c.lawful_states_stay_lawful.ensures.stays s _ law _ c.args.count
+    (some_text g.S.Store m c.args.text.now c.args.store k c.serve_all.new.keeper
+    (leaves_text g.S.Store m c.args.text.now k c.serve_all.new.keeper c.in-Ok.ensures.of_map c.serve_all.ensures.same_map)
+    c.args.count c.in-Ok.ensures.counted (c.serve_all.ensures.ends still clean))
     (serves_up_to g.S.Store m c.args.store c.args.count s k c.serve_all.new.keeper opened c.in-Ok.ensures.counted
     (c.serve_all.ensures.ends still clean))))
 
@@ -87,9 +94,11 @@ returns-in-Err-listen_on-clause-lasts g c =
     let m = c.args.map.now in
     let k = c.in-Ok.keeper in
     rw c.into_store-in-Err-listen_on.ensures
-    (λ clean s desk law. inl (record {
+    (λ clean s desk law made. inl (record {
       never = λ bad. bad;
-      left = holds_lawful g.S.Store m s _ law (holds g.S.Store m s k (c.in-Ok.ensures.opened clean s desk.says));
+      left =
+          let opened = c.in-Ok.ensures.opened clean s desk.says in
+          holds_lawful g.S.Store m c.args.text.now s _ law (leaves_text g.S.Store m c.args.text.now k k c.in-Ok.ensures.of_map refl opened.again) (holds g.S.Store m s k opened);
     }))
 
 pub returns-in_default-clause-lasts : goal.returns-in_default-clause-lasts
@@ -97,13 +106,15 @@ returns-in_default-clause-lasts g c =
     let m = c.args.map.now in
     let k = c.in-Ok.keeper in
     rw c.into_store.ensures
-    (λ clean s desk law. inl (record {
+    (λ clean s desk law made. inl (record {
       never = λ bad. bad;
-      left = holds_lawful g.S.Store m s _ law (holds g.S.Store m s k (c.in-Ok.ensures.opened clean s desk.says));
+      left =
+          let opened = c.in-Ok.ensures.opened clean s desk.says in
+          holds_lawful g.S.Store m c.args.text.now s _ law (leaves_text g.S.Store m c.args.text.now k k c.in-Ok.ensures.of_map refl opened.again) (holds g.S.Store m s k opened);
     }))
 
 pub returns-in-Err-clause-lasts : goal.returns-in-Err-clause-lasts
-returns-in-Err-clause-lasts g c = λ honest s desk law. inl (record {
+returns-in-Err-clause-lasts g c = λ honest s desk law made. inl (record {
   never = λ bad. bad;
-  left = shut_lawful g.S.Store c.args.map.now _ s c.args.store _ law desk.says (c.in-Err.ensures.ends honest s desk);
+  left = shut_lawful g.S.Store c.args.map.now c.args.text.now _ s c.args.store _ law desk.says made (c.in-Err.ensures.ends honest s desk);
 })

@@ -18,6 +18,7 @@ letters-preserved g c =
     record {
       count = goes.count ∙ i.count;
       fair = λ honest. i.fair (goes.fair honest);
+      same_map = goes.same_map ∙ i.same_map;
       goes = λ it honest. goes.opens (i.goes it (goes.fair honest)) honest;
       told = omega (arith, i.told, goes.told);
       of_size = omega (arith, i.of_size, goes.of_size);
@@ -36,6 +37,7 @@ pub letters-init : goal.letters-init
 letters-init g c = record {
   count = refl;
   fair = λ honest. honest;
+  same_map = refl;
   goes = λ it honest. it;
   told = omega arith;
   of_size = omega arith;
@@ -68,6 +70,7 @@ returns-in_err-step g c =
       count = count_so (Unit {0}) m b c.letters.rest.now c.letters.keeper c.step.new.keeper c.in_err-step.field-0.0 c.in_err-step.ensures.failed
           ∙ ap (λ (n : ℕ). faults_after_run {A = Unit {0}} (Err c.in_err-step.field-0.0) n) i.count;
       fair = λ honest. i.fair (f.fair honest);
+      same_map = f.same_map ∙ i.same_map;
     }
 
 -- the writing of a reply failed
@@ -95,4 +98,5 @@ returns-in_err-write_reply-in-Some g c =
       fault = tt;
       count = goes.count ∙ i.count;
       fair = λ honest. i.fair (goes.fair honest);
+      same_map = goes.same_map ∙ i.same_map;
     }

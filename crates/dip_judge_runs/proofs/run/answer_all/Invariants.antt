@@ -12,6 +12,7 @@ abbrev pub invariant-letters : goal.invariant-letters
 invariant-letters g l = let b = g.K.Keeper.book in record {
   count : b.faults l.keeper ≡ b.faults l.fn.keeper;
   fair : b.honest l.keeper → b.honest l.fn.keeper;
+  same_map : b.map_sum l.keeper ≡ b.map_sum l.fn.keeper;
   goes : IsOpen l.fn.map b l.fn.keeper → b.honest l.keeper → IsOpen l.fn.map b l.keeper;
   told : b.told l.fn.keeper ≤ b.told l.keeper;
   of_size : b.of_size l.fn.keeper ≤ b.of_size l.keeper;

@@ -1,6 +1,8 @@
-use Rattle.std.proofs.Common.{inl, inr, Err, ap, arith, refl, sym, ◌∙◌}
+use Rattle.std.proofs.Common.{◌≡◌, rules, inl, inr, Err, List, ap, arith, refl, subst, sym, ◌∙◌, ℕ}
+use Rattle.sha2.specs.Sha256.{sha256}
 use Rattle.sqlite.specs.Held.{state}
 use Rattle.dip_store_sql.specs.Calls.{tables_in}
+use Rattle.dip_store_schema.specs.Desk.{DeskSays}
 use Rattle.dip_store_schema.specs.declared.faults.StoreFault.{StoreFault}
 use Rattle.dip_store_schema.proofs.Refused.{own_outage}
 use Rattle.dip_store.proofs.Opened.{kept_by, none_old, opens_same, says_new, stays_shut}
@@ -13,9 +15,14 @@ returns-in-Ok g c =
     let ready = c.requires.ready in
     let now = (state g.S.Store store).now in
     let it = c.in-Ok.ensures in
+    let sum : c.sum.result ≡ sha256 c.args.map_text.now = search rules in
     rw c.over.ensures
     (record {
-      opened = λ clean s says. opens_same g.S.Store m c.args.alloc c.check_desk.new.conn c.commits_last-in-Ok.ensures c.in-Ok.field-0 store ready s (says_new m now s c.requires.ballots says) (it.shown clean) it.selects clean;
+      opened = λ clean s says.
+          let own = says_new m now s c.requires.ballots says in
+          opens_same g.S.Store m c.args.alloc c.check_desk.new.conn c.commits_last-in-Ok.ensures c.in-Ok.field-0 store c.sum.result ready s own (it.shown clean) it.selects clean
+          (subst (λ (x : List ℕ). DeskSays 2 x (tables_in g.S.Store store)) (sym sum) (it.says (kept_by g.S.Store m store ready own.0 (it.shown clean)) clean));
+      of_map = sum;
       told = refl;
       made = λ clean. record {
         new = λ own. it.says (kept_by g.S.Store m store ready own (it.shown clean)) clean;
@@ -42,6 +49,7 @@ returns-in-Err g c =
     let p = it.selects in
     record {
       opened = tt;
+      of_map = tt;
       told = tt;
       made = tt;
       known = λ clean tells. inl (it.known_first clean tells);

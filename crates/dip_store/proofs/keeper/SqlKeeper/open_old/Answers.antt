@@ -1,7 +1,8 @@
-use Rattle.std.proofs.Common.{Err, inl, inr, ap, arith, refl, sym, ◌∙◌}
+use Rattle.std.proofs.Common.{◌≡◌, rules, Err, inl, inr, List, ap, arith, refl, subst, sym, ◌∙◌, ℕ}
 use Rattle.sha2.specs.Sha256.{sha256}
 use Rattle.sqlite.specs.Held.{state}
 use Rattle.dip_store_sql.specs.Calls.{old_tables_in}
+use Rattle.dip_store_schema.specs.Desk.{DeskSays}
 use Rattle.dip_store_schema.specs.declared.faults.StoreFault.{StoreFault}
 use Rattle.dip_store_schema.proofs.Refilling.{decided}
 use Rattle.dip_store_schema.proofs.Refused.{outage_refused, own_outage}
@@ -18,13 +19,17 @@ returns-in-Ok g c =
     let now = (state g.S.Store store).now in
     let it = c.in_default.ensures in
     let renews = c.in-Ok.ensures in
+    let sum : c.sum.result ≡ sha256 c.args.map_text.now = search rules in
     rw c.over.ensures
     (record {
       opened = λ clean s says.
           let own = says_old m now s c.requires.none says in
           let honest = renews.fair clean in
-          opens_renewed g.S.Store m (c.old_tables_are_renewed.ensures m) store own.0 s own.1 c.in_default.field-0 c.args.alloc c.check_old_desk.new.conn c.renew.new.conn c.commits_last-in-Ok.ensures
+          opens_renewed g.S.Store m (c.old_tables_are_renewed.ensures m) store own.0 s own.1 c.sum.result
+          (subst (λ (x : List ℕ). DeskSays 1 x (old_tables_in g.S.Store store)) (sym sum) (it.says (was_kept_by g.S.Store m store ready own.0 (it.shown honest)) honest))
+          c.in_default.field-0 c.args.alloc c.check_old_desk.new.conn c.renew.new.conn c.commits_last-in-Ok.ensures
           it.selects ready (it.shown honest) honest (λ kept here. renews.kept kept m here clean) (renews.ok clean);
+      of_map = sum;
       told = refl;
       made = λ clean. record {
         new = λ own. absurd (none_new m now c.requires.none own);
@@ -54,6 +59,7 @@ returns-in-Err g c =
     let p = it.selects in
     record {
       opened = tt;
+      of_map = tt;
       told = tt;
       made = tt;
       known = λ clean tells. inr (it.known_first clean tells);
@@ -92,6 +98,7 @@ returns-in-Err-renew g c =
     let fault = c.in-Err-renew.fault in
     record {
       opened = tt;
+      of_map = tt;
       told = tt;
       made = tt;
       known = λ clean tells. inr (it.known (renews.fair clean));

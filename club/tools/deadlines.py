@@ -7,7 +7,8 @@ import sys
 import keeping
 import mailing
 from judge import Away, game_state, paper
-from master import AGAIN, Refused, clock_noted, guard_clock, master_lock, sent_by_master
+from master import (AGAIN, Refused, clock_noted, guard_clock, master_lock, papers_seen,
+                    sent_by_master)
 from settings import Settings, deadline_in, minute_now, time_of_tick
 
 # A game that is played late by at most this part of its period keeps its deadlines as they were.
@@ -103,18 +104,6 @@ def tick_for(state: dict) -> int:
 
 
 # Papers
-
-def papers_seen(settings: Settings, game: str, count: int) -> dict:
-    """Which papers were mailed: to all, and to single addresses. A game that the tools didn't open
-    begins with its present papers mailed."""
-    path = settings.state / "papers" / f"{game}.json"
-    seen = keeping.json_of(path)
-    is_kept = isinstance(seen.get("all"), int) and isinstance(seen.get("to"), dict)
-    if not is_kept or seen["all"] > count:   # fewer: the store went back to a copy
-        seen = {"all": count, "to": {}}
-        keeping.write_json(path, seen)
-    return seen
-
 
 def readers(settings: Settings, game: str) -> list:
     """The addresses of a game's players, each once."""

@@ -12,6 +12,7 @@ from pathlib import Path
 from settings import Settings, now
 
 DAY = 86400
+MOST_LOG = 1_000_000   # bytes, from which on the log is log.1 and a new one begins
 
 
 def made_folder(path: Path) -> Path:
@@ -86,10 +87,13 @@ def log(settings: Settings, line: str) -> None:
     stamp = time.strftime("%Y-%m-%d %H:%M:%S", time.localtime(now()))
     clean = re.sub(r"[^ -~]", "?", line)[:500]
     try:
-        made_folder(settings.state)
-        handle = os.open(settings.state / "log", os.O_WRONLY | os.O_CREAT | os.O_APPEND, 0o600)
-        with os.fdopen(handle, "w") as out:
-            out.write(f"{stamp} {clean}\n")
+        with locked(settings.state / "log.lock"):
+            path = settings.state / "log"
+            if path.exists() and path.stat().st_size >= MOST_LOG:
+                path.replace(settings.state / "log.1")
+            handle = os.open(path, os.O_WRONLY | os.O_CREAT | os.O_APPEND, 0o600)
+            with os.fdopen(handle, "w") as out:
+                out.write(f"{stamp} {clean}\n")
     except OSError:
         pass  # a log that can't be written must not keep a letter from the judge
 

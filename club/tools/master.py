@@ -165,6 +165,9 @@ def run_master(options, settings: Settings) -> int:
     with master_lock(settings):
         guarded(settings, game, command, options)
         body = body_for(command)
+        state = game_state(settings, game)
+        if state is not None:
+            papers_seen(settings, game, state["papers"])
         if command.startswith("REPLACE "):
             forget_seat(settings, game, command.split(" ")[1])
         if command.startswith("CREATE"):
@@ -297,6 +300,19 @@ def start_papers(settings: Settings, game: str) -> None:
     """Paper 1, the opening, isn't mailed; all later ones are."""
     path = settings.state / "papers" / f"{game}.json"
     keeping.write_json(path, {"all": 1, "to": {}})
+
+
+def papers_seen(settings: Settings, game: str, count: int) -> dict:
+    """Which papers were mailed: to all, and to single addresses. A game that the tools didn't open
+    begins with its present papers mailed; so does each after the store went back to a copy, which
+    is known by fewer papers. It is looked at before any command that may make one."""
+    path = settings.state / "papers" / f"{game}.json"
+    seen = keeping.json_of(path)
+    is_kept = isinstance(seen.get("all"), int) and isinstance(seen.get("to"), dict)
+    if not is_kept or seen["all"] > count:
+        seen = {"all": count, "to": {}}
+        keeping.write_json(path, seen)
+    return seen
 
 
 def secrets_given(settings: Settings, game: str, given: dict, send_to: dict, due: int) -> int:

@@ -5,8 +5,8 @@ use Rattle.dip_map.specs.Charts.{Chart}
 use Rattle.dip_decide.specs.Deciding.{Assignment}
 use Rattle.dip_decide.specs.Meaning.{meant_on}
 use Rattle.dip_orders.specs.Conditions.{is_movement}
-use Rattle.dip_orders.specs.Standing.{standing_orders}
-use Rattle.dip_orders.specs.declared.placed.PlacedOrder.{PlacedOrder}
+use Rattle.dip_orders_placed.specs.Standing.{standing_orders}
+use Rattle.dip_orders_placed.specs.declared.placed.PlacedOrder.{PlacedOrder}
 use Rattle.dip_turn.specs.Centres.{centre_lines}
 use Rattle.dip_turn.specs.Moving.{after_moves}
 use Rattle.dip_turn.specs.Outcomes.{movement_lines}

@@ -5,7 +5,7 @@ use Rattle.dip_map.specs.Charts.{Chart}
 use Rattle.dip_desk_state.specs.Records.{Public}
 use Rattle.dip_desk_games.specs.ByPlace.{are_by_place}
 use Rattle.dip_orders.specs.Given.{AreGiven}
-use Rattle.dip_orders.specs.declared.placed.PlacedOrder.{PlacedOrder}
+use Rattle.dip_orders_placed.specs.declared.placed.PlacedOrder.{PlacedOrder}
 use Rattle.dip_check_papers.specs.Checks.{IsToldOfPhase}
 use Rattle.dip_check_papers.specs.Printed.{orders_printed_at}
 use Rattle.dip_check_papers.specs.declared.verdict.Fault.{Fault}

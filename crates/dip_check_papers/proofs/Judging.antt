@@ -13,9 +13,9 @@ use Rattle.dip_map.specs.declared.boards.Season.{Season}
 use Rattle.dip_map.specs.declared.boards.Season.TheVariants.{SpringMoves, SpringRetreats, FallMoves, FallRetreats, Winter}
 use Rattle.dip_orders.specs.Conditions.{is_adjustment, is_movement, is_retreat}
 use Rattle.dip_orders.specs.Given.{AreGiven}
-use Rattle.dip_orders.specs.Standing.{standing_orders}
-use Rattle.dip_orders.specs.declared.placed.Order.TheVariants.{Build, Remove}
-use Rattle.dip_orders.specs.declared.placed.PlacedOrder.{PlacedOrder}
+use Rattle.dip_orders_placed.specs.Standing.{standing_orders}
+use Rattle.dip_orders_placed.specs.declared.placed.Order.TheVariants.{Build, Remove}
+use Rattle.dip_orders_placed.specs.declared.placed.PlacedOrder.{PlacedOrder}
 use Rattle.dip_desk_state.specs.Records.{Public}
 use Rattle.dip_decide.specs.Meaning.{meant_on}
 use Rattle.dip_decide.specs.Results.{values_in}
@@ -24,11 +24,11 @@ use Rattle.dip_turn.specs.Laws.{AreAlike, IsSame, PhasesHaveOneResult}
 use Rattle.dip_turn.specs.Centres.{centre_lines}
 use Rattle.dip_turn.specs.Phases.{follow, sequel}
 use Rattle.dip_turn.specs.Reports.{IsPlayed, Leaves, LeavesAdjusted, LeavesMoved, LeavesRetreated}
-use Rattle.dip_turn.specs.declared.report.Account.{Account}
-use Rattle.dip_turn.specs.declared.report.Account.TheVariants.{Movement as OfMovement, Retreats as OfRetreats, Adjustment as OfAdjustment}
+use Rattle.dip_turn_report.specs.declared.report.Account.{Account}
+use Rattle.dip_turn_report.specs.declared.report.Account.TheVariants.{Movement as OfMovement, Retreats as OfRetreats, Adjustment as OfAdjustment}
 use Rattle.dip_turn.specs.CentreLine.{CentreLine}
 use Rattle.dip_turn.specs.Course.{Course}
-use Rattle.dip_turn.specs.declared.report.Report.{Report}
+use Rattle.dip_turn_report.specs.declared.report.Report.{Report}
 use Rattle.dip_turn.specs.RetreatLine.{RetreatLine}
 use Rattle.dip_turn.specs.Waiver.{Waiver}
 use Rattle.dip_turn.specs.MovementLine.{MovementLine}

@@ -6,8 +6,8 @@ use Rattle.std.proofs.lemmas.Bool.{and_parts, eqb-true}
 use Rattle.std.proofs.lemmas.List.{drop_more}
 use Rattle.dip_map.specs.Charts.{are_units_single}
 use Rattle.dip_orders.specs.Given.{orders_of_power}
-use Rattle.dip_orders.specs.Standing.{units_of}
-use Rattle.dip_orders.specs.declared.placed.PlacedOrder.{PlacedOrder}
+use Rattle.dip_orders_placed.specs.Standing.{units_of}
+use Rattle.dip_orders_placed.specs.declared.placed.PlacedOrder.{PlacedOrder}
 use Rattle.dip_desk_games.specs.ByPlace.{are_by_place, comes_before}
 
 pub all_mapped : {A B : Type 0} (f : A → B) (p : B → Bool) (xs : List A) → list_all (λ x. p (f x)) xs ≡ true → AllByRecursion (λ y. p y ≡ true) (map f xs)

@@ -10,14 +10,14 @@ use Rattle.dip_decide.specs.Deciding.{Assignment}
 use Rattle.dip_orders.specs.Conditions.{is_adjustment, is_movement}
 use Rattle.dip_orders.specs.Given.{AreGiven}
 use Rattle.dip_orders.specs.Laws.{LawfulOrdersAreRead, OrdersAreLawful, OrdersStandAlone, TextsAreReadAgain}
-use Rattle.dip_orders.specs.Standing.{order_among, standing_orders}
+use Rattle.dip_orders_placed.specs.Standing.{order_among, standing_orders}
 use Rattle.dip_orders.specs.Texts.{order_text}
-use Rattle.dip_orders.specs.declared.placed.PlacedOrder.{PlacedOrder}
+use Rattle.dip_orders_placed.specs.declared.placed.PlacedOrder.{PlacedOrder}
 use Rattle.dip_turn.specs.Outcomes.{lines_on}
 use Rattle.dip_turn.specs.Reports.{IsMoved}
 use Rattle.dip_turn_papers.specs.Papers.{moved_lines}
 use Rattle.dip_turn_papers.specs.declared.lines.PaperLine.{PaperLine}
-use Rattle.dip_turn.specs.declared.report.Movement.{Movement}
+use Rattle.dip_turn_report.specs.declared.report.Movement.{Movement}
 use Rattle.dip_desk_games.specs.ByPlace.{are_by_place, comes_before}
 use Rattle.dip_check_papers.specs.Placing.{placed_by}
 use Rattle.dip_check_papers.proofs.Listed.{apart}

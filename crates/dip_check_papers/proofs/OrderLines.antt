@@ -7,7 +7,7 @@ use Rattle.dip_letters.proofs.LineLemmas.{cut_again, line_again}
 use Rattle.dip_letters.proofs.NameLemmas.{after_again}
 use Rattle.dip_map.specs.Boards.{Position}
 use Rattle.dip_map.specs.Charts.{Chart, IsMap, realm}
-use Rattle.dip_orders.proofs.StandingLaws.{unit_itself}
+use Rattle.dip_orders_placed.proofs.StandingLaws.{unit_itself}
 use Rattle.dip_orders.specs.Texts.{order_text}
 use Rattle.dip_turn.specs.Fate.{Fate}
 use Rattle.dip_turn.specs.Fate.TheVariants.{Stands, Dislodged, Destroyed}

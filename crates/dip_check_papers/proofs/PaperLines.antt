@@ -23,10 +23,10 @@ use Rattle.dip_map.specs.declared.boards.Phase.{Phase}
 use Rattle.dip_map.specs.declared.boards.Season.{Season}
 use Rattle.dip_map.specs.declared.boards.Season.TheVariants.{SpringMoves, SpringRetreats, FallMoves, FallRetreats, Winter}
 use Rattle.dip_orders.specs.Texts.{action_text, kind_letter, order_text, other_text, place_text, unit_text, verb_text, via_text}
-use Rattle.dip_orders.specs.declared.placed.Order.{Order}
-use Rattle.dip_orders.specs.declared.placed.Order.TheVariants.{Hold, Move, SupportHold, SupportMove, Convoy, Retreat, Disband, Build, Remove}
-use Rattle.dip_orders.specs.declared.placed.Other.{Other}
-use Rattle.dip_orders.specs.declared.placed.PlacedOrder.{PlacedOrder}
+use Rattle.dip_orders_placed.specs.declared.placed.Order.{Order}
+use Rattle.dip_orders_placed.specs.declared.placed.Order.TheVariants.{Hold, Move, SupportHold, SupportMove, Convoy, Retreat, Disband, Build, Remove}
+use Rattle.dip_orders_placed.specs.declared.placed.Other.{Other}
+use Rattle.dip_orders_placed.specs.declared.placed.PlacedOrder.{PlacedOrder}
 use Rattle.dip_desk_state.specs.Records.{Public, Status, Running, Paused, Closed, Ended, Won, Drawn}
 use Rattle.dip_reports.specs.Texts.{board_line, board_lines, by_province, centres, force_text, forces, game_line, intent_text, joined, listing, marked_line, marked_lines, notice_lines, paper_title, phase_text, status_text, terms_text, yes_or_no}
 use Rattle.dip_reports.specs.declared.board_lines.Force.{Force}
@@ -34,10 +34,10 @@ use Rattle.dip_turn.specs.Fate.{Fate}
 use Rattle.dip_turn.specs.Fate.TheVariants.{Stands, Dislodged, Destroyed}
 use Rattle.dip_turn.specs.Outcome.{Outcome}
 use Rattle.dip_turn.specs.Outcome.TheVariants.{Holds, Moves, Bounced, NoRoute, Given, Cut, Void, Convoys}
-use Rattle.dip_turn.specs.declared.report.Account.{Account}
-use Rattle.dip_turn.specs.declared.report.Account.TheVariants.{Movement as OfMovement, Retreats as OfRetreats, Adjustment as OfAdjustment}
+use Rattle.dip_turn_report.specs.declared.report.Account.{Account}
+use Rattle.dip_turn_report.specs.declared.report.Account.TheVariants.{Movement as OfMovement, Retreats as OfRetreats, Adjustment as OfAdjustment}
 use Rattle.dip_turn.specs.CentreLine.{CentreLine}
-use Rattle.dip_turn.specs.declared.report.Report.{Report}
+use Rattle.dip_turn_report.specs.declared.report.Report.{Report}
 use Rattle.dip_turn.specs.Waiver.{Waiver}
 use Rattle.dip_turn_papers.specs.Papers as t
 use Rattle.dip_turn_papers.specs.declared.lines.PaperLine.{PaperLine}

@@ -12,12 +12,12 @@ use Rattle.dip_orders.specs.Conditions.{is_adjustment}
 use Rattle.dip_orders.specs.Laws.{LawfulOrdersAreRead, OrdersAreLawful}
 use Rattle.dip_orders.specs.Lawful.{IsAllowed}
 use Rattle.dip_orders.specs.Reading.{order_of}
-use Rattle.dip_orders.specs.Standing.{found_order, is_in_force, is_same_unit, order_among, standing_orders}
+use Rattle.dip_orders_placed.specs.Standing.{found_order, is_in_force, is_same_unit, order_among, standing_orders}
 use Rattle.dip_orders.specs.Texts.{order_text}
-use Rattle.dip_orders.specs.declared.placed.Order.{Order}
-use Rattle.dip_orders.specs.declared.placed.Order.TheVariants.{Hold, Move, SupportHold, SupportMove, Convoy, Retreat, Disband, Build, Remove}
-use Rattle.dip_orders.specs.declared.placed.PlacedOrder.{PlacedOrder}
-use Rattle.dip_orders.proofs.StandingLaws.{made_among, orders_in_force, same_unit, unit_itself}
+use Rattle.dip_orders_placed.specs.declared.placed.Order.{Order}
+use Rattle.dip_orders_placed.specs.declared.placed.Order.TheVariants.{Hold, Move, SupportHold, SupportMove, Convoy, Retreat, Disband, Build, Remove}
+use Rattle.dip_orders_placed.specs.declared.placed.PlacedOrder.{PlacedOrder}
+use Rattle.dip_orders_placed.proofs.StandingLaws.{made_among, orders_in_force, same_unit, unit_itself}
 use Rattle.dip_check_papers.specs.Placing.{placed_by}
 use Rattle.dip_check_papers.proofs.Placing.{among_cases, each_made, of_all, placed_among, placed_each}
 

@@ -11,12 +11,12 @@ use Rattle.dip_map.specs.declared.boards.Dislodged.{Dislodged}
 use Rattle.dip_orders.specs.Given.{orders_of_power}
 use Rattle.dip_orders.specs.Laws.{LawfulOrdersAreRead, OrdersStandAlone, TextsAreReadAgain}
 use Rattle.dip_orders.specs.Reading.{order_of}
-use Rattle.dip_orders.specs.Standing.{found_order, is_in_force, is_same_unit, order_among}
+use Rattle.dip_orders_placed.specs.Standing.{found_order, is_in_force, is_same_unit, order_among}
 use Rattle.dip_orders.specs.Texts.{order_text}
-use Rattle.dip_orders.specs.declared.placed.Order.TheVariants.{Disband, Hold}
-use Rattle.dip_orders.specs.declared.placed.PlacedOrder.{PlacedOrder}
-use Rattle.dip_orders.proofs.FindLaws.{find_passes}
-use Rattle.dip_orders.proofs.StandingLaws.{element_cases, made_among, same_unit}
+use Rattle.dip_orders_placed.specs.declared.placed.Order.TheVariants.{Disband, Hold}
+use Rattle.dip_orders_placed.specs.declared.placed.PlacedOrder.{PlacedOrder}
+use Rattle.dip_orders_placed.proofs.FindLaws.{find_passes}
+use Rattle.dip_orders_placed.proofs.StandingLaws.{element_cases, made_among, same_unit}
 use Rattle.dip_turn.specs.Retreating.{found_retreat, is_for_dislodged}
 use Rattle.dip_check_papers.specs.Laws.{GivenAreReadBack, RetreatsAreReadBack, StandingIsReadBack, StandingIsSettled}
 

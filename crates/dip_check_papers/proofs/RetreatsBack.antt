@@ -12,12 +12,12 @@ use Rattle.dip_map.specs.declared.boards.Season.{Season}
 use Rattle.dip_map.specs.declared.boards.Season.TheVariants.{SpringMoves, SpringRetreats, FallMoves, FallRetreats, Winter}
 use Rattle.dip_orders.specs.Conditions.{is_adjustment, is_retreat}
 use Rattle.dip_orders.specs.Given.{AreGiven}
-use Rattle.dip_orders.specs.Standing.{is_same_unit}
-use Rattle.dip_orders.specs.declared.placed.Order.{Order}
-use Rattle.dip_orders.specs.declared.placed.Order.TheVariants.{Disband}
-use Rattle.dip_orders.specs.declared.placed.PlacedOrder.{PlacedOrder}
-use Rattle.dip_orders.proofs.FindLaws.{find_passes}
-use Rattle.dip_orders.proofs.StandingLaws.{made_among, same_unit, unit_itself}
+use Rattle.dip_orders_placed.specs.Standing.{is_same_unit}
+use Rattle.dip_orders_placed.specs.declared.placed.Order.{Order}
+use Rattle.dip_orders_placed.specs.declared.placed.Order.TheVariants.{Disband}
+use Rattle.dip_orders_placed.specs.declared.placed.PlacedOrder.{PlacedOrder}
+use Rattle.dip_orders_placed.proofs.FindLaws.{find_passes}
+use Rattle.dip_orders_placed.proofs.StandingLaws.{made_among, same_unit, unit_itself}
 use Rattle.dip_turn.specs.Retreating.{after_retreat, after_retreats, at_refuge, found_retreat, goal, is_for_dislodged, is_in, refuge, retreat_line, retreat_lines, retreat_order}
 use Rattle.dip_turn.specs.RetreatLine.{RetreatLine}
 use Rattle.dip_turn_papers.specs.Papers.{retreated_lines}

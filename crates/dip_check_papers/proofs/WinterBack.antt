@@ -22,11 +22,11 @@ use Rattle.dip_orders.specs.Lawful.{IsAllowed}
 use Rattle.dip_orders.specs.Reading.{order_of}
 use Rattle.dip_orders.specs.Texts.{order_text}
 use Rattle.dip_orders.specs.declared.faults.OrderFault.{OrderFault}
-use Rattle.dip_orders.specs.declared.placed.Order.{Order}
-use Rattle.dip_orders.specs.declared.placed.Order.TheVariants.{Hold, Move, SupportHold, SupportMove, Convoy, Retreat, Disband, Build, Remove}
-use Rattle.dip_orders.specs.declared.placed.PlacedOrder.{PlacedOrder}
+use Rattle.dip_orders_placed.specs.declared.placed.Order.{Order}
+use Rattle.dip_orders_placed.specs.declared.placed.Order.TheVariants.{Hold, Move, SupportHold, SupportMove, Convoy, Retreat, Disband, Build, Remove}
+use Rattle.dip_orders_placed.specs.declared.placed.PlacedOrder.{PlacedOrder}
 use Rattle.dip_turn.specs.Reports.{IsAdjusted}
-use Rattle.dip_turn.specs.declared.report.Adjustment.{Adjustment}
+use Rattle.dip_turn_report.specs.declared.report.Adjustment.{Adjustment}
 use Rattle.dip_turn.specs.Waiver.{Waiver}
 use Rattle.dip_turn.proofs.CountLemmas.{count_append, count_kept}
 use Rattle.dip_turn.proofs.MapLemmas.{AreEachLawful, each_lawful}

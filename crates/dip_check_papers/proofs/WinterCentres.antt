@@ -6,7 +6,7 @@ use Rattle.std.proofs.lemmas.Bool.{eq-eqb}
 use Rattle.dip_map.specs.Boards.{Position, owner}
 use Rattle.dip_map.specs.Charts.{Chart, provs}
 use Rattle.dip_map.specs.declared.boards.Season.TheVariants.{SpringMoves, Winter}
-use Rattle.dip_orders.specs.declared.placed.PlacedOrder.{PlacedOrder}
+use Rattle.dip_orders_placed.specs.declared.placed.PlacedOrder.{PlacedOrder}
 use Rattle.dip_turn.specs.Adjusting.{after_adjustment}
 use Rattle.dip_turn.specs.Centres.{centre_line, centre_lines, is_same_owner}
 use Rattle.dip_turn.specs.Phases.{Sequel, follow, in_phase, last_year, new_year, sequel}

@@ -12,12 +12,12 @@ use Rattle.dip_map.specs.declared.boards.Season.TheVariants.{SpringMoves, Spring
 use Rattle.dip_orders.specs.Conditions.{is_adjustment, is_build, is_movement, is_remove, is_retreat}
 use Rattle.dip_orders.specs.Given.{AreGiven, orders_of_power}
 use Rattle.dip_orders.specs.Lawful.{IsAllowed, MayCome, MayGo}
-use Rattle.dip_orders.specs.Standing.{is_same_unit}
-use Rattle.dip_orders.specs.declared.placed.Order.{Order}
-use Rattle.dip_orders.specs.declared.placed.Order.TheVariants.{Hold, Move, SupportHold, SupportMove, Convoy, Retreat, Disband, Build, Remove}
-use Rattle.dip_orders.specs.declared.placed.PlacedOrder.{PlacedOrder}
+use Rattle.dip_orders_placed.specs.Standing.{is_same_unit}
+use Rattle.dip_orders_placed.specs.declared.placed.Order.{Order}
+use Rattle.dip_orders_placed.specs.declared.placed.Order.TheVariants.{Hold, Move, SupportHold, SupportMove, Convoy, Retreat, Disband, Build, Remove}
+use Rattle.dip_orders_placed.specs.declared.placed.PlacedOrder.{PlacedOrder}
 use Rattle.dip_orders.proofs.LawfulReadLaws.{any_at}
-use Rattle.dip_orders.proofs.StandingLaws.{made_among, same_unit, unit_itself}
+use Rattle.dip_orders_placed.proofs.StandingLaws.{made_among, same_unit, unit_itself}
 use Rattle.dip_turn.specs.Adjusting.{is_given, units_built, units_given}
 use Rattle.dip_turn.proofs.MapLemmas.{AreEachLawful, come_of}
 use Rattle.dip_turn.proofs.PlaceLemmas.{built_unit}

@@ -6,9 +6,9 @@ use Rattle.dip_map.specs.Charts.{Chart, IsMap}
 use Rattle.dip_orders.specs.Conditions.{is_movement, is_retreat}
 use Rattle.dip_orders.specs.Given.{AreGiven}
 use Rattle.dip_orders.specs.Reading.{order_of}
-use Rattle.dip_orders.specs.Standing.{found_order, order_among, standing_orders}
+use Rattle.dip_orders_placed.specs.Standing.{found_order, order_among, standing_orders}
 use Rattle.dip_orders.specs.Texts.{order_text}
-use Rattle.dip_orders.specs.declared.placed.PlacedOrder.{PlacedOrder}
+use Rattle.dip_orders_placed.specs.declared.placed.PlacedOrder.{PlacedOrder}
 use Rattle.dip_map.specs.declared.boards.Dislodged.{Dislodged}
 use Rattle.dip_turn.specs.Retreating.{retreat_order}
 use Rattle.dip_desk_state.specs.Records.{Public}

@@ -19,12 +19,12 @@ use Rattle.dip_explain.specs.Phases.{HasOrders, phase_explained}
 use Rattle.dip_names.specs.declared.names.Unit.{Unit as AUnit}
 use Rattle.dip_map.specs.declared.boards.Season.{Season}
 use Rattle.dip_map.specs.declared.boards.Season.TheVariants.{SpringMoves, SpringRetreats, FallMoves, FallRetreats, Winter}
-use Rattle.dip_orders.specs.Standing.{order_among}
-use Rattle.dip_orders.specs.declared.placed.PlacedOrder.{PlacedOrder}
+use Rattle.dip_orders_placed.specs.Standing.{order_among}
+use Rattle.dip_orders_placed.specs.declared.placed.PlacedOrder.{PlacedOrder}
 use Rattle.dip_turn.specs.Reports.{Leaves, LeavesMoved}
-use Rattle.dip_turn.specs.declared.report.Account.{Account}
-use Rattle.dip_turn.specs.declared.report.Account.TheVariants.{Movement as OfMovement, Retreats as OfRetreats, Adjustment as OfAdjustment}
-use Rattle.dip_turn.specs.declared.report.Report.{Report}
+use Rattle.dip_turn_report.specs.declared.report.Account.{Account}
+use Rattle.dip_turn_report.specs.declared.report.Account.TheVariants.{Movement as OfMovement, Retreats as OfRetreats, Adjustment as OfAdjustment}
+use Rattle.dip_turn_report.specs.declared.report.Report.{Report}
 use Rattle.dip_check_runs.specs.declared.faults.CheckFault.{CheckFault}
 use Rattle.dip_check_runs.specs.declared.faults.CheckFault.TheVariants.{Memory, Read, TooLong, Write}
 use Rattle.dip_check_papers.specs.PaperTexts.{HasNoEnd}

@@ -16,6 +16,12 @@ use dip_streams::write_text;
 use std::alloc::{AllocError, Global};
 use std::io::{Read, Write};
 
+/// Hears how far a check has come.
+pub trait Progress {
+    /// So many papers were read so far, and each is right.
+    fn hear(&self, papers: u32);
+}
+
 /// Writes a text, or a beginning of it.
 pub(crate) fn tell<W: Write>(writer: &mut W, text: &[u8]) -> Result<(), CheckFault>
     ensures ok { OnOk result (Appends (W.contents writer.old) (W.contents writer.new) text.now) }
@@ -116,14 +122,16 @@ fn tell_stop<W: Write>(
 
 /// Reads papers, and tells of each whether the rules give it next in the game, up to the first that is wrong. Whether all are right: just
 /// where the input is the papers of a game of the map, from its opening on, with nothing but empty lines around them. One paper and one
-/// board are in memory at a time. What comes after a wrong paper is read and isn't looked at.
+/// board are in memory at a time. What comes after a wrong paper is read and isn't looked at. `progress` hears the count after each paper
+/// that is right.
 ///
 /// # Errors
 /// `Read`; `TooLong` where a paper has more than `MOST_PAPER` bytes, of which it tells the line; `Write` or `Memory`.
-pub fn check_papers<R: Read, W: Write>(
+pub fn check_papers<R: Read, W: Write, P: Progress>(
     alloc: Global,
     reader: &mut R,
     writer: &mut W,
+    progress: &P,
     map: &Map,
 ) -> Result<bool, CheckFault>
     ensures checked { IfOk result (IsChecked map.now (R.remaining reader.old)
@@ -146,7 +154,10 @@ pub fn check_papers<R: Read, W: Write>(
             return tell_end(alloc, writer, map, &game);
         }
         match judge_next(alloc, writer, map, &game, paper)? {
-            Said::Right(new) => game = Some(new),
+            Said::Right(new) => {
+                progress.hear(new.papers);
+                game = Some(new);
+            }
             _ => {
                 skip_rest(reader, &ahead);
                 return Ok(false);

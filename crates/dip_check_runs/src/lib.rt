@@ -10,7 +10,7 @@ mod papers;
 mod saying;
 mod texts;
 
-pub use checking::check_papers;
+pub use checking::{Progress, check_papers};
 pub use explaining::explain_paper;
 pub use faults::CheckFault;
 pub use input::MOST_PAPER;

@@ -12,7 +12,7 @@ use Rattle.dip_names.specs.declared.names.Kind.TheVariants.{Army, Fleet}
 use Rattle.dip_names.specs.declared.names.Place.{Place}
 use Rattle.dip_map.specs.Boards.{Position, IsOf, are_ascending}
 use Rattle.dip_map.specs.Charts.{Chart, may_stand, is_unit, are_provs_single}
-use Rattle.dip_orders.specs.Standing.{units_of, are_in_force}
+use Rattle.dip_orders_placed.specs.Standing.{units_of, are_in_force}
 use Rattle.dip_decide_rules.specs.declared.decisions.Resolution.{Resolution}
 use Rattle.dip_decide_rules.specs.Deciding as Deciding
 use Rattle.dip_decide_rules.specs.Deciding.Step.{Forced as Forces, Circle as Circles, Knot as Knots}
@@ -28,7 +28,7 @@ use Rattle.dip_decide_rules.proofs.Progress.{no_more, listed_decision, arrives}
 use Rattle.dip_decide_rules.proofs.Rises.{count_le}
 use Rattle.dip_decide_rules.proofs.Rounds.{knotted}
 use Rattle.dip_decide.proofs.Situated.{situated}
-use Rattle.dip_orders.specs.declared.placed.PlacedOrder.{PlacedOrder}
+use Rattle.dip_orders_placed.specs.declared.placed.PlacedOrder.{PlacedOrder}
 use Rattle.dip_decide_rules.specs.declared.decisions.Decision.{Decision}
 use Rattle.dip_decide_rules.specs.declared.decisions.Decision.TheVariants.{Move, Path, Support}
 use Rattle.dip_decide_rules.specs.declared.decisions.Step as Written

@@ -8,10 +8,10 @@ use Rattle.dip_names.specs.declared.names.Kind.TheVariants.{Army, Fleet}
 use Rattle.dip_names.specs.declared.names.Kind.{Kind}
 use Rattle.dip_names.specs.declared.names.Unit.{Unit as AUnit}
 use Rattle.dip_map.specs.Charts.{Chart, are_provs_single, are_units_single}
-use Rattle.dip_orders.specs.Standing.{is_in_force, are_in_force, units_of}
-use Rattle.dip_orders.specs.declared.placed.Order.{Order}
-use Rattle.dip_orders.specs.declared.placed.Order.TheVariants.{Hold, Move, SupportHold, SupportMove, Convoy, Retreat, Disband, Build, Remove}
-use Rattle.dip_orders.specs.declared.placed.PlacedOrder.{PlacedOrder}
+use Rattle.dip_orders_placed.specs.Standing.{is_in_force, are_in_force, units_of}
+use Rattle.dip_orders_placed.specs.declared.placed.Order.{Order}
+use Rattle.dip_orders_placed.specs.declared.placed.Order.TheVariants.{Hold, Move, SupportHold, SupportMove, Convoy, Retreat, Disband, Build, Remove}
+use Rattle.dip_orders_placed.specs.declared.placed.PlacedOrder.{PlacedOrder}
 use Rattle.dip_decide_rules.specs.Matching.{Standing, order_at, provinces_of, destination, target_of, goes_by_convoy, is_convoyed, is_there, is_matched, supports_in, direction, aim_of, is_carried, convoys_in, situation}
 use Rattle.dip_decide_rules.specs.Movement.{IsSituation, is_at, is_listed}
 

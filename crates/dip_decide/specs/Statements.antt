@@ -3,7 +3,7 @@ use Rattle.std.specs.Prelude.{◌≡◌, ◌↔◌, ℕ, Bool, true, false, List
 use mathlib.Core.Logic.{◌⊎◌}
 use Rattle.dip_map.specs.Boards.{Position}
 use Rattle.dip_map.specs.Charts.{Chart}
-use Rattle.dip_orders.specs.declared.placed.PlacedOrder.{PlacedOrder}
+use Rattle.dip_orders_placed.specs.declared.placed.PlacedOrder.{PlacedOrder}
 use Rattle.dip_decide_rules.specs.declared.decisions.Decision.{Decision}
 use Rattle.dip_decide_rules.specs.declared.decisions.Decision.TheVariants.{Move, Path}
 use Rattle.dip_decide_rules.specs.Deciding.{Assignment, Known, Step, IsForced, IsCircle, IsOpenPath, IsKnotted, Stands, after, is_broken}

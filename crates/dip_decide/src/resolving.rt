@@ -3,7 +3,7 @@ ghost use Rattle.std.specs.Prelude.{◌≡◌, ◌≤◌, ◌+◌, IfOk, length,
 ghost use Rattle.std.specs.List.{list_any, slice_set};
 ghost use Rattle.dip_map.specs.Charts.{provs};
 ghost use Rattle.dip_map.specs.Boards.{IsOf};
-ghost use Rattle.dip_orders.specs.Standing.{units_of};
+ghost use Rattle.dip_orders_placed.specs.Standing.{units_of};
 ghost use Rattle.dip_decide_rules.specs.declared.decisions.Decision.{Decision as ADecision};
 ghost use Rattle.dip_decide_rules.specs.Deciding.{is_broken};
 ghost use Rattle.dip_decide_rules.specs.Given.{known_of};
@@ -18,7 +18,7 @@ use crate::turns::explain;
 use dip_decide_rules::{Resolution, Step, Tests, Values, all_false, table_on, value_at};
 use dip_map::{Board, Map};
 use dip_names::Prov;
-use dip_orders::Orders;
+use dip_orders_placed::Orders;
 use std::alloc::{AllocError, Global};
 
 /// Whether the value is known and true.

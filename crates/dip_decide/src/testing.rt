@@ -1,7 +1,7 @@
 //! The test of one decision, with values of one's own.
 ghost use Rattle.std.specs.Prelude.{◌≡◌, ◌+◌, ◌<◌, ◌^◌, None, IfOk};
 ghost use Rattle.dip_map.specs.Boards.{IsOf};
-ghost use Rattle.dip_orders.specs.Standing.{units_of};
+ghost use Rattle.dip_orders_placed.specs.Standing.{units_of};
 ghost use Rattle.dip_decide_rules.specs.Given.{known_of, IsAnswer};
 ghost use Rattle.dip_decide_rules.specs.Meaning.{situation_on};
 ghost use Rattle.dip_decide_rules.specs.Movement.{at_first, rule};
@@ -9,7 +9,7 @@ ghost use Rattle.dip_decide_rules.specs.Movement.{at_first, rule};
 use crate::starting::values_at_start;
 use dip_decide_rules::{Decision, Tests, Values, forced_by_orders, table_on};
 use dip_map::{Board, Map};
-use dip_orders::Orders;
+use dip_orders_placed::Orders;
 use std::alloc::{AllocError, Global};
 
 /// What is known before anything is decided: of all that is no decision that it is false. The only error is want of memory.

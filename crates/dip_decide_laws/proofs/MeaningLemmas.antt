@@ -8,10 +8,10 @@ use Rattle.dip_names.specs.declared.names.Kind.TheVariants.{Army, Fleet}
 use Rattle.dip_names.specs.declared.names.Unit.{Unit as AUnit}
 use Rattle.dip_names.specs.Kinds.{is_kind, is_sea}
 use Rattle.dip_map.specs.Charts.{Chart, is_army_next, province}
-use Rattle.dip_orders.specs.declared.placed.Other.{Other}
-use Rattle.dip_orders.specs.declared.placed.Order.{Order}
-use Rattle.dip_orders.specs.declared.placed.Order.TheVariants.{Hold, Move, SupportHold, SupportMove, Convoy, Retreat, Disband, Build, Remove}
-use Rattle.dip_orders.specs.declared.placed.PlacedOrder.{PlacedOrder}
+use Rattle.dip_orders_placed.specs.declared.placed.Other.{Other}
+use Rattle.dip_orders_placed.specs.declared.placed.Order.{Order}
+use Rattle.dip_orders_placed.specs.declared.placed.Order.TheVariants.{Hold, Move, SupportHold, SupportMove, Convoy, Retreat, Disband, Build, Remove}
+use Rattle.dip_orders_placed.specs.declared.placed.PlacedOrder.{PlacedOrder}
 use Rattle.dip_decide.specs.Meaning.{are_coastal, carries_for, is_convoy_of, is_meant_by_sea, meant, meant_of, meant_order}
 use Rattle.dip_decide_laws.specs.Laws.{IsCarriedByOwn, IsOwnCarrier, MeansTheSame}
 use Rattle.dip_decide_laws.specs.Words.{goes_itself, goes_to, held_if, holding, is_a_convoy, is_a_move, is_move_to, is_own_way, prov}

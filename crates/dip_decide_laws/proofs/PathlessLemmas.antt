@@ -8,11 +8,11 @@ use Rattle.dip_names.specs.declared.names.Kind.TheVariants.{Army, Fleet}
 use Rattle.dip_names.specs.Kinds.{is_kind, is_sea}
 use Rattle.dip_map.specs.Charts.{Chart, province, are_units_single}
 use Rattle.dip_map.specs.Boards.{Position}
-use Rattle.dip_orders.specs.Standing.{units_of}
-use Rattle.dip_orders.specs.declared.placed.Other.{Other}
-use Rattle.dip_orders.specs.declared.placed.Order.{Order}
-use Rattle.dip_orders.specs.declared.placed.Order.TheVariants.{Hold, Move, SupportHold, SupportMove, Convoy, Retreat, Disband, Build, Remove}
-use Rattle.dip_orders.specs.declared.placed.PlacedOrder.{PlacedOrder}
+use Rattle.dip_orders_placed.specs.Standing.{units_of}
+use Rattle.dip_orders_placed.specs.declared.placed.Other.{Other}
+use Rattle.dip_orders_placed.specs.declared.placed.Order.{Order}
+use Rattle.dip_orders_placed.specs.declared.placed.Order.TheVariants.{Hold, Move, SupportHold, SupportMove, Convoy, Retreat, Disband, Build, Remove}
+use Rattle.dip_orders_placed.specs.declared.placed.PlacedOrder.{PlacedOrder}
 use Rattle.dip_decide.specs.Decision.TheVariants.{Support as Supports}
 use Rattle.dip_decide.specs.Deciding.{Assignment}
 use Rattle.dip_decide.specs.Matching.{Standing, destination, target_of, direction, aim_of, goes_by_convoy, is_convoyed, is_there, is_matched, supports_in, is_carried, convoys_in, order_at, situation}

@@ -5,9 +5,9 @@ use Rattle.dip_names.specs.declared.names.Place.{Place}
 use Rattle.dip_names.specs.declared.names.Terrain.TheVariants.{Sea}
 use Rattle.dip_map.specs.Charts.{Chart, is_fleet_next, province}
 use Rattle.dip_map.specs.Boards.{Position}
-use Rattle.dip_orders.specs.declared.placed.Other.{Other}
-use Rattle.dip_orders.specs.declared.placed.Order.TheVariants.{Convoy}
-use Rattle.dip_orders.specs.declared.placed.PlacedOrder.{PlacedOrder}
+use Rattle.dip_orders_placed.specs.declared.placed.Other.{Other}
+use Rattle.dip_orders_placed.specs.declared.placed.Order.TheVariants.{Convoy}
+use Rattle.dip_orders_placed.specs.declared.placed.PlacedOrder.{PlacedOrder}
 use Rattle.dip_decide.specs.Decision.TheVariants.{Move as Moves, Path as Paths}
 use Rattle.dip_decide.specs.Deciding.{Assignment, Step}
 use Rattle.dip_decide.specs.Laws.{AreOrders}

@@ -5,10 +5,10 @@ use Rattle.dip_names.specs.declared.names.Kind.TheVariants.{Army, Fleet}
 use Rattle.dip_names.specs.Kinds.{is_kind}
 use Rattle.dip_map.specs.Charts.{Chart, is_army_next}
 use Rattle.dip_map.specs.Boards.{Position}
-use Rattle.dip_orders.specs.declared.placed.Other.{Other}
-use Rattle.dip_orders.specs.declared.placed.Order.{Order}
-use Rattle.dip_orders.specs.declared.placed.Order.TheVariants.{Hold, Move, SupportHold, SupportMove, Convoy}
-use Rattle.dip_orders.specs.declared.placed.PlacedOrder.{PlacedOrder}
+use Rattle.dip_orders_placed.specs.declared.placed.Other.{Other}
+use Rattle.dip_orders_placed.specs.declared.placed.Order.{Order}
+use Rattle.dip_orders_placed.specs.declared.placed.Order.TheVariants.{Hold, Move, SupportHold, SupportMove, Convoy}
+use Rattle.dip_orders_placed.specs.declared.placed.PlacedOrder.{PlacedOrder}
 use Rattle.dip_decide.specs.Decision.{Decision}
 use Rattle.dip_decide.specs.Decision.TheVariants.{Move as Moves, Path as Paths, Support as Supports}
 use Rattle.dip_decide.specs.Deciding.{Assignment, is_path}

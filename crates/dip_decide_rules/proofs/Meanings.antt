@@ -2,7 +2,7 @@
 use Rattle.std.proofs.Common.{List, ◌∙◌}
 use Rattle.dip_map.specs.Boards.{Position}
 use Rattle.dip_map.specs.Charts.{Chart}
-use Rattle.dip_orders.specs.declared.placed.PlacedOrder.{PlacedOrder}
+use Rattle.dip_orders_placed.specs.declared.placed.PlacedOrder.{PlacedOrder}
 pub use Rattle.dip_decide_table.proofs.Meanings.{meant_in_force, meant_units}
 use Rattle.dip_decide_table.specs.Meaning.{meant_on}
 use Rattle.dip_decide_rules.specs.Laws.{AreOrders}

@@ -3,8 +3,8 @@ use Rattle.std.specs.Prelude.{◌≡◌, ℕ, ◌≤◌, ◌&&◌, not, Bool, tr
 use Rattle.std.specs.List.{list_any}
 use Rattle.dip_map.specs.Boards.{Position, IsOf}
 use Rattle.dip_map.specs.Charts.{Chart, are_provs_single}
-use Rattle.dip_orders.specs.Standing.{are_in_force, units_of}
-use Rattle.dip_orders.specs.declared.placed.PlacedOrder.{PlacedOrder}
+use Rattle.dip_orders_placed.specs.Standing.{are_in_force, units_of}
+use Rattle.dip_orders_placed.specs.declared.placed.PlacedOrder.{PlacedOrder}
 use Rattle.dip_decide_rules.specs.Movement.{Situation, goes, is_listed}
 use Rattle.dip_decide_rules.specs.Rings.{first_or}
 

@@ -9,7 +9,7 @@ use crate::decisions::Decision;
 use crate::values::Values;
 use dip_decide_table::{Room, Table, table_on};
 use dip_map::{Board, Map};
-use dip_orders::PlacedOrder;
+use dip_orders_placed::PlacedOrder;
 use std::alloc::{AllocError, Global};
 use std::marker::Model;
 

@@ -5,7 +5,7 @@ use Rattle.std.specs.List.{range_with_len, slice_set}
 use Rattle.std.proofs.lemmas.List.{drop_more, drop_all, map-set}
 use Rattle.std.proofs.lemmas.Bool.{ne_eqb, eq-eqb}
 use Rattle.dip_map.specs.Charts.{Chart}
-use Rattle.dip_orders.specs.declared.placed.PlacedOrder.{PlacedOrder}
+use Rattle.dip_orders_placed.specs.declared.placed.PlacedOrder.{PlacedOrder}
 use Rattle.dip_decide_table.specs.Rows.{rows_of, alike_rows}
 use Rattle.dip_decide_table.specs.Matching.{order_at}
 

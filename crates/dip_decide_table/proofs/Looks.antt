@@ -5,7 +5,7 @@ use Rattle.std.specs.List.{list_any}
 use Rattle.std.proofs.lemmas.Bool.{cases_Bool, both_ways, eqb-true}
 use Rattle.std.proofs.Math.Path.{fun_ext}
 use mathlib.Core.Logic.{◌⊎◌}
-use Rattle.dip_orders.specs.declared.placed.PlacedOrder.{PlacedOrder}
+use Rattle.dip_orders_placed.specs.declared.placed.PlacedOrder.{PlacedOrder}
 use Rattle.dip_decide_table.specs.declared.placed.Table.{Table}
 use Rattle.dip_decide_table.specs.Matching.{supports_in}
 use Rattle.dip_decide_table.specs.Placed.{backed_of, entry}

@@ -5,10 +5,10 @@ use Rattle.std.proofs.lemmas.List.Elements.{All-map}
 use Rattle.dip_names.specs.declared.names.Unit.{Unit as AUnit}
 use Rattle.dip_map.specs.Boards.{Position}
 use Rattle.dip_map.specs.Charts.{Chart}
-use Rattle.dip_orders.specs.Standing.{are_in_force, is_done_from, is_in_force, units_of}
-use Rattle.dip_orders.specs.declared.placed.Order.{Order}
-use Rattle.dip_orders.specs.declared.placed.Order.TheVariants.{Hold, Move, SupportHold, SupportMove, Convoy, Retreat, Disband, Build, Remove}
-use Rattle.dip_orders.specs.declared.placed.PlacedOrder.{PlacedOrder}
+use Rattle.dip_orders_placed.specs.Standing.{are_in_force, is_done_from, is_in_force, units_of}
+use Rattle.dip_orders_placed.specs.declared.placed.Order.{Order}
+use Rattle.dip_orders_placed.specs.declared.placed.Order.TheVariants.{Hold, Move, SupportHold, SupportMove, Convoy, Retreat, Disband, Build, Remove}
+use Rattle.dip_orders_placed.specs.declared.placed.PlacedOrder.{PlacedOrder}
 use Rattle.dip_decide_table.specs.Meaning.{meant, meant_of, meant_on, meant_order}
 
 within_by : (m : Chart) (intent : Bool) (orders : List PlacedOrder) → All (λ o. o.unit.place.prov < length m.provinces) orders

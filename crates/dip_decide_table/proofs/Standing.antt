@@ -3,10 +3,10 @@ use Rattle.std.proofs.Common.{◌≡◌, ℕ, refl, sym}
 use Rattle.std.specs.Prelude.{Bool, true, false, ◌&&◌, Option, None, Some, is_some}
 use Rattle.std.proofs.lemmas.Bool.{both_ways, and_parts}
 use Rattle.dip_map.specs.Charts.{Chart}
-use Rattle.dip_orders.specs.declared.placed.Order.{Order}
-use Rattle.dip_orders.specs.declared.placed.Order.TheVariants.{Hold, Move, SupportHold, SupportMove, Convoy, Retreat, Disband, Build, Remove}
-use Rattle.dip_orders.specs.declared.placed.Other.{Other}
-use Rattle.dip_orders.specs.declared.placed.PlacedOrder.{PlacedOrder}
+use Rattle.dip_orders_placed.specs.declared.placed.Order.{Order}
+use Rattle.dip_orders_placed.specs.declared.placed.Order.TheVariants.{Hold, Move, SupportHold, SupportMove, Convoy, Retreat, Disband, Build, Remove}
+use Rattle.dip_orders_placed.specs.declared.placed.Other.{Other}
+use Rattle.dip_orders_placed.specs.declared.placed.PlacedOrder.{PlacedOrder}
 use Rattle.dip_decide_table.specs.declared.placed.Table.{Table}
 use Rattle.dip_decide_table.specs.Rows.{situation_of}
 use Rattle.dip_decide_table.specs.Matching.{Standing, is_there, is_matched, supports_in, convoys_in}

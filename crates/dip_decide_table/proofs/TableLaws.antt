@@ -7,7 +7,7 @@ use Rattle.std.proofs.lemmas.Bool.{both_ways, cases_Bool, eqb-true, cases_lt, or
 use Rattle.std.proofs.Math.Path.{fun_ext}
 use mathlib.Core.Logic.{◌⊎◌}
 use Rattle.dip_map.specs.Charts.{Chart}
-use Rattle.dip_orders.specs.declared.placed.PlacedOrder.{PlacedOrder}
+use Rattle.dip_orders_placed.specs.declared.placed.PlacedOrder.{PlacedOrder}
 use Rattle.dip_decide_table.specs.Matching.{order_at, provinces_of, situation, situation_by}
 use Rattle.dip_decide_table.specs.Situations.{is_listed}
 use Rattle.dip_decide_table.specs.Placed.{entry}

@@ -1,7 +1,7 @@
 -- What the rows of a table stand for.
 use Rattle.std.specs.Prelude.{List, map, Option}
 use Rattle.dip_map.specs.Charts.{Chart, provs}
-use Rattle.dip_orders.specs.declared.placed.PlacedOrder.{PlacedOrder}
+use Rattle.dip_orders_placed.specs.declared.placed.PlacedOrder.{PlacedOrder}
 use Rattle.dip_decide_table.specs.declared.placed.Table.{Table}
 use Rattle.dip_decide_table.specs.Matching.{order_at, situation_by}
 use Rattle.dip_decide_table.specs.Placed.{entry}

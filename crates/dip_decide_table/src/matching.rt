@@ -11,7 +11,7 @@ ghost use Rattle.dip_decide_table.specs.Situations.{goes, head_to_head, has_move
 use crate::placed::Table;
 use dip_map::Map;
 use dip_names::{Kind, Place, Prov};
-use dip_orders::{Order, Other, PlacedOrder};
+use dip_orders_placed::{Order, Other, PlacedOrder};
 
 /// Where an order sends its unit.
 fn destination(order: Order) -> Option<Prov>

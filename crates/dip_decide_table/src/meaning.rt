@@ -8,7 +8,7 @@ use crate::placed::Table;
 use crate::table::table_of;
 use dip_map::{Board, Map};
 use dip_names::{Kind, Power, Prov, Unit};
-use dip_orders::{Order, PlacedOrder};
+use dip_orders_placed::{Order, PlacedOrder};
 use std::alloc::{AllocError, Global};
 
 /// Whether the order is to convoy the army in one province to the other.

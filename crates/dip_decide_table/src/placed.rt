@@ -8,7 +8,7 @@ ghost use Rattle.dip_decide_table.specs.Placed.{backed_of, backings_of, carried_
 use crate::held::ByKey;
 use dip_map::Map;
 use dip_names::Prov;
-use dip_orders::PlacedOrder;
+use dip_orders_placed::PlacedOrder;
 
 /// The orders of a movement, by the numbers of the provinces.
 #[derive(Drop)]

@@ -2,7 +2,7 @@
 ghost use Rattle.std.specs.Prelude.{◌≡◌, ◌<◌, ℕ, false, length, replicate, map, List, None, Option, Some, All, IfOk};
 ghost use Rattle.std.specs.List.{slice_set};
 ghost use Rattle.dip_decide_table.specs.Held.{units_of};
-ghost use Rattle.dip_orders.specs.declared.placed.PlacedOrder.{PlacedOrder as APlacedOrder};
+ghost use Rattle.dip_orders_placed.specs.declared.placed.PlacedOrder.{PlacedOrder as APlacedOrder};
 ghost use Rattle.dip_decide_table.specs.Matching.{is_convoyed, provinces_of, situation, target_of};
 ghost use Rattle.dip_decide_table.specs.Rows.{rows_of, alike_rows, situation_of};
 ghost use Rattle.dip_decide_table.specs.Placed.{AreColumns, backed_of, backings_among, backings_of, carried_of, entry, keyed_by, targets_of};
@@ -13,7 +13,7 @@ use crate::matching::{backed_by, carried_of, is_convoyed_of, target_of};
 use crate::placed::Table;
 use dip_map::Map;
 use dip_names::Prov;
-use dip_orders::PlacedOrder;
+use dip_orders_placed::PlacedOrder;
 use std::alloc::{AllocError, Global};
 
 /// What the orders say, by the numbers of the provinces.

@@ -8,7 +8,7 @@ use Rattle.dip_letters.specs.Notes.{Request, SeatNote}
 use Rattle.dip_letters.specs.Notes.MasterRequest.{Replace}
 use Rattle.dip_letters.specs.Notes.PlayerRequest.{Press}
 use Rattle.dip_letters.specs.Notes.Request.{Player, Master}
-use Rattle.dip_orders.specs.declared.placed.PlacedOrder.{PlacedOrder}
+use Rattle.dip_orders_placed.specs.declared.placed.PlacedOrder.{PlacedOrder}
 use Rattle.dip_turn.specs.Reports.{IsPlayed}
 use Rattle.dip_reports.specs.Texts.{press_line, replaced_line}
 use Rattle.dip_desk_machine.specs.Ordering.{orders_that_stand}

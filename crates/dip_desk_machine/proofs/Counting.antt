@@ -3,7 +3,7 @@ use Rattle.std.proofs.Common.{◌≡◌, ℕ, ◌==◌, ◌<◌, ◌≤◌, ◌+
 use Rattle.std.specs.Prelude.{◌&&◌, not, count_by}
 use Rattle.std.specs.List.{AllByRecursion}
 use Rattle.std.proofs.lemmas.Bool.{eq-eqb, eqb-true}
-use Rattle.dip_orders.proofs.KeptLaws.{count_cons}
+use Rattle.dip_orders_placed.proofs.KeptLaws.{count_cons}
 use Rattle.dip_desk_state.specs.Fitting.{AreAscending}
 use Rattle.dip_desk_games.proofs.ListLemmas.{all_weaker}
 

@@ -12,15 +12,15 @@ use Rattle.dip_letters.specs.Letters.{FitsRequest}
 use Rattle.dip_letters.specs.Notes.{Request}
 use Rattle.dip_letters.specs.Notes.MasterRequest.{Tick}
 use Rattle.dip_letters.specs.Notes.Request.{Master}
-use Rattle.dip_orders.proofs.FindLaws.{find_among}
-use Rattle.dip_map.proofs.SpelledLaws.{centre_low}
+use Rattle.dip_orders_placed.proofs.FindLaws.{find_among}
+use Rattle.dip_map.proofs.BoardLaws.{centre_low}
 use Rattle.dip_orders.proofs.LawfulReadLaws.{home_centre}
 use Rattle.dip_orders.specs.Lawful.{IsAllowed, IsDislodged, MayCome, Stands}
 use Rattle.dip_orders.specs.Reading.{order_of}
 use Rattle.dip_orders.specs.declared.faults.OrderFault.{OrderFault}
-use Rattle.dip_orders.specs.declared.placed.Order.{Order}
-use Rattle.dip_orders.specs.declared.placed.Order.TheVariants.{Hold, Move, SupportHold, SupportMove, Convoy, Retreat, Disband, Build, Remove}
-use Rattle.dip_orders.specs.declared.placed.PlacedOrder.{PlacedOrder}
+use Rattle.dip_orders_placed.specs.declared.placed.Order.{Order}
+use Rattle.dip_orders_placed.specs.declared.placed.Order.TheVariants.{Hold, Move, SupportHold, SupportMove, Convoy, Retreat, Disband, Build, Remove}
+use Rattle.dip_orders_placed.specs.declared.placed.PlacedOrder.{PlacedOrder}
 use Rattle.dip_desk_state.specs.Records.{Item, Own, Public, Standing}
 use Rattle.dip_desk_machine.specs.Fitting.{EffectsFit, LawfulEffectsFit}
 use Rattle.dip_desk_state.specs.Fitting.{AreAscending, FitsMap}

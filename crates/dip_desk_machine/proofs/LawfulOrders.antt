@@ -6,16 +6,16 @@ use Rattle.std.specs.List.{AllByRecursion}
 use Rattle.dip_map.specs.Boards.{Position}
 use Rattle.dip_map.specs.Charts.{Chart}
 use Rattle.dip_names.specs.declared.names.Unit.{Unit as AUnit}
-use Rattle.dip_orders.proofs.KeptLaws.{count_cons}
-use Rattle.dip_orders.specs.Allowances.{builds_due, removals_due}
+use Rattle.dip_orders_placed.proofs.KeptLaws.{count_cons}
+use Rattle.dip_orders_placed.specs.Allowances.{builds_due, removals_due}
 use Rattle.dip_orders.specs.Conditions.{is_build, is_remove}
 use Rattle.dip_orders.specs.Lawful.{IsAllowed}
 use Rattle.dip_orders.specs.Reading.{order_of}
 use Rattle.dip_orders.specs.Texts.{order_text}
 use Rattle.dip_orders.specs.declared.faults.OrderFault.{OrderFault}
-use Rattle.dip_orders.specs.declared.placed.Order.{Order}
-use Rattle.dip_orders.specs.declared.placed.Order.TheVariants.{Hold, Move, SupportHold, SupportMove, Convoy, Retreat, Disband, Build, Remove}
-use Rattle.dip_orders.specs.declared.placed.PlacedOrder.{PlacedOrder}
+use Rattle.dip_orders_placed.specs.declared.placed.Order.{Order}
+use Rattle.dip_orders_placed.specs.declared.placed.Order.TheVariants.{Hold, Move, SupportHold, SupportMove, Convoy, Retreat, Disband, Build, Remove}
+use Rattle.dip_orders_placed.specs.declared.placed.PlacedOrder.{PlacedOrder}
 use Rattle.dip_desk_state.specs.Records.{Standing}
 use Rattle.dip_desk_machine.specs.Lawful.{AreStanding}
 use Rattle.dip_desk_state.specs.Fitting.{AreAscending}

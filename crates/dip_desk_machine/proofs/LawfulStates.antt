@@ -26,12 +26,12 @@ use Rattle.dip_desk_players.specs.Pressing.{is_among}
 use Rattle.dip_desk_state.specs.State.{State, Game, Part, Author, Nobody, TheMaster, Seat, Change, Effect, Nothing, Pending, Votes, Delivers, Opens, Publishes, Seats, NewSeat, after_paper, desk_after, fresh, game_after, game_at, name_of, new_games, opening_game, papers_after, power_in, public_after, seat_at, whole_of, with_author, with_digest, with_effect, with_item, with_letter}
 use Rattle.dip_desk_state.specs.Writable.{IsPublicOf, IsStatusOf, IsVoteOf}
 use Rattle.dip_desk_games.specs.Ticking.{orders_of, public_played, status_after}
-use Rattle.dip_orders.proofs.KeptLaws.{count_cons}
+use Rattle.dip_orders_placed.proofs.KeptLaws.{count_cons}
 use Rattle.dip_orders.specs.Given.{AreGiven}
-use Rattle.dip_orders.specs.declared.placed.PlacedOrder.{PlacedOrder}
+use Rattle.dip_orders_placed.specs.declared.placed.PlacedOrder.{PlacedOrder}
 use Rattle.dip_turn.specs.Laws.{WinnersOwnMore}
 use Rattle.dip_turn.specs.Reports.{IsPlayed}
-use Rattle.dip_turn.specs.declared.report.Report.{Report}
+use Rattle.dip_turn_report.specs.declared.report.Report.{Report}
 use Rattle.dip_desk_state.proofs.KeyedLemmas.{at-append, names_tell, powers_tell}
 use Rattle.dip_desk_machine.proofs.LawfulOrders.{AreRead, ordered_standing}
 use Rattle.dip_desk_games.proofs.ListLemmas.{all_weaker}

@@ -19,7 +19,7 @@ use Rattle.dip_desk_state.specs.State.{State, Game, Part, Nobody, TheMaster, Sea
 use Rattle.dip_desk_state.specs.Writable.{IsPublicOf}
 use Rattle.dip_desk_games.specs.Ordering.{has_foreign}
 use Rattle.dip_desk_games.specs.Ticking.{IsPlayable}
-use Rattle.dip_orders.proofs.KeptLaws.{count_cons}
+use Rattle.dip_orders_placed.proofs.KeptLaws.{count_cons}
 use Rattle.dip_desk_state.proofs.KeyedLemmas.{at_key, powers_tell}
 use Rattle.dip_desk_machine.proofs.LawfulOrders.{AreRead, standing_own}
 use Rattle.dip_desk_games.proofs.ListLemmas.{all_weaker}

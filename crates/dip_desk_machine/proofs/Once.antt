@@ -7,18 +7,18 @@ use Rattle.dip_map.specs.Charts.{Chart}
 use Rattle.dip_letters.specs.Notes.{Request}
 use Rattle.dip_letters.specs.Notes.MasterRequest.{Create, Tick, Replace, Notify}
 use Rattle.dip_letters.specs.Notes.Request.{Player, Master}
-use Rattle.dip_orders.specs.declared.placed.Order.TheVariants.{Build, Remove}
+use Rattle.dip_orders_placed.specs.declared.placed.Order.TheVariants.{Build, Remove}
 use Rattle.dip_turn.specs.MovementLine.{MovementLine}
 use Rattle.dip_turn_papers.specs.Papers.{account_text, adjusted_with, centre_line, lines_by_power, moved_lines, paper_text, retreated_lines, title, unit_line}
 use Rattle.dip_turn_papers.specs.declared.lines.Told.TheVariants.{Built, Removed, RemovedInDisorder}
 use Rattle.dip_desk_state.specs.Records.{Kept, Public, Whole}
 use Rattle.dip_reports.specs.Texts.{board_lines, game_line, paper_line}
 use Rattle.dip_turn.specs.Laws.{AreAlike, IsSame, PhasesHaveOneResult}
-use Rattle.dip_turn.specs.declared.report.Account.{Account}
-use Rattle.dip_turn.specs.declared.report.Account.TheVariants.{Movement as OfMovement, Retreats as OfRetreats, Adjustment as OfAdjustment}
+use Rattle.dip_turn_report.specs.declared.report.Account.{Account}
+use Rattle.dip_turn_report.specs.declared.report.Account.TheVariants.{Movement as OfMovement, Retreats as OfRetreats, Adjustment as OfAdjustment}
 use Rattle.dip_turn.specs.CentreLine.{CentreLine}
 use Rattle.dip_turn.specs.Course.{Course}
-use Rattle.dip_turn.specs.declared.report.Report.{Report}
+use Rattle.dip_turn_report.specs.declared.report.Report.{Report}
 use Rattle.dip_turn.specs.RetreatLine.{RetreatLine}
 use Rattle.dip_turn.specs.Waiver.{Waiver}
 use Rattle.dip_desk_games.specs.Drawing.{drawn_between}

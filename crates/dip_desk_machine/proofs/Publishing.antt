@@ -10,7 +10,7 @@ use Rattle.dip_decide.specs.Meaning.{meant_on, situation_on}
 use Rattle.dip_decide.specs.Results.{values_in}
 use Rattle.dip_decide.specs.Statements.{ExplainedSatisfies}
 use Rattle.dip_decide.specs.Steps.{steps_of}
-use Rattle.dip_orders.specs.declared.placed.PlacedOrder.{PlacedOrder}
+use Rattle.dip_orders_placed.specs.declared.placed.PlacedOrder.{PlacedOrder}
 use Rattle.dip_turn.specs.Moving.{after_moves}
 use Rattle.dip_turn.specs.Outcomes.{movement_lines}
 use Rattle.dip_turn.specs.MovementLine.{MovementLine}
@@ -20,11 +20,11 @@ use Rattle.dip_reports.specs.Texts.{board_lines, game_line}
 use Rattle.dip_turn.specs.Centres.{centre_lines}
 use Rattle.dip_turn.specs.Phases.{Sequel, follow}
 use Rattle.dip_turn.specs.Reports.{Leaves, LeavesMoved}
-use Rattle.dip_turn.specs.declared.report.Account.{Account}
-use Rattle.dip_turn.specs.declared.report.Account.TheVariants.{Movement as OfMovement, Retreats as OfRetreats, Adjustment as OfAdjustment}
+use Rattle.dip_turn_report.specs.declared.report.Account.{Account}
+use Rattle.dip_turn_report.specs.declared.report.Account.TheVariants.{Movement as OfMovement, Retreats as OfRetreats, Adjustment as OfAdjustment}
 use Rattle.dip_turn.specs.CentreLine.{CentreLine}
-use Rattle.dip_turn.specs.declared.report.Movement.{Movement}
-use Rattle.dip_turn.specs.declared.report.Report.{Report}
+use Rattle.dip_turn_report.specs.declared.report.Movement.{Movement}
+use Rattle.dip_turn_report.specs.declared.report.Report.{Report}
 use Rattle.dip_desk_machine.specs.Mail.{Mail}
 use Rattle.dip_desk_machine.specs.Machine.{Decides, IsPublished, NotKnown, Taken, Verdict}
 use Rattle.dip_orders.specs.Conditions.{is_movement}

@@ -13,15 +13,15 @@ use Rattle.dip_letters.specs.Notes.MasterRequest.{Create}
 use Rattle.dip_letters.specs.Notes.NoticeRequest.{Announce, Close, Pause, Period, Resume}
 use Rattle.dip_names.specs.Forms.{is_printable}
 use Rattle.dip_letters.specs.Words.{is_lower, is_name, is_text}
-use Rattle.dip_orders.proofs.KeptLaws.{count_cons}
-use Rattle.dip_orders.specs.declared.placed.PlacedOrder.{PlacedOrder}
+use Rattle.dip_orders_placed.proofs.KeptLaws.{count_cons}
+use Rattle.dip_orders_placed.specs.declared.placed.PlacedOrder.{PlacedOrder}
 use Rattle.dip_desk_state.specs.Records.{Own, Public}
 use Rattle.dip_turn.specs.Centres.{centres}
 use Rattle.dip_turn.specs.Laws.{WinnersOwnMore}
 use Rattle.dip_turn.specs.Reports.{IsPlayed}
 use Rattle.dip_turn.specs.Course.{Course}
 use Rattle.dip_turn.specs.Course.TheVariants.{GoesOn, Won as WonBy, Ended as AtAnEnd}
-use Rattle.dip_turn.specs.declared.report.Report.{Report}
+use Rattle.dip_turn_report.specs.declared.report.Report.{Report}
 use Rattle.dip_desk_games.specs.Drawing.{public_drawn}
 use Rattle.dip_desk_machine.specs.Machine.{author, digest, master_author, opening_public, power_author, seat_author}
 use Rattle.dip_desk_machine.specs.Mail.{Mail}

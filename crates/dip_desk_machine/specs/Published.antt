@@ -9,8 +9,8 @@ use Rattle.dip_decide.specs.Deciding.{Assignment, Step, is_broken}
 use Rattle.dip_decide.specs.Meaning.{meant_on, situation_on}
 use Rattle.dip_decide.specs.Movement.{Satisfies}
 use Rattle.dip_decide.specs.Results.{AreExplained}
-use Rattle.dip_orders.specs.Standing.{standing_orders}
-use Rattle.dip_orders.specs.declared.placed.PlacedOrder.{PlacedOrder}
+use Rattle.dip_orders_placed.specs.Standing.{standing_orders}
+use Rattle.dip_orders_placed.specs.declared.placed.PlacedOrder.{PlacedOrder}
 use Rattle.dip_turn.specs.Moving.{after_moves}
 use Rattle.dip_turn.specs.Outcomes.{movement_lines}
 use Rattle.dip_turn.specs.MovementLine.{MovementLine}

@@ -12,7 +12,7 @@ use Rattle.dip_desk_state.specs.Fitting.{are_complete}
 use Rattle.dip_desk_state.specs.State.{Game, Opens, Publishes, Seats, NewSeat}
 use Rattle.dip_turn_papers.specs.Papers.{paper_text}
 use Rattle.dip_turn.specs.Reports.{IsPlayed}
-use Rattle.dip_turn.specs.declared.report.Report.{Report}
+use Rattle.dip_turn_report.specs.declared.report.Report.{Report}
 use Rattle.dip_reports.specs.Texts.{draw_paper, notice_paper, opening_paper, paper_line, replaced_line}
 use Rattle.dip_desk_state.specs.Records.{Public, Whole}
 use Rattle.dip_reports.specs.declared.refusals.Refusal.TheVariants.{Malformed, GameOver, NotDue, NameTaken}

@@ -2,7 +2,7 @@
 use Rattle.std.proofs.Common.{◌≡◌, ◌∙◌, ◌<◌, ◌+◌, ◌++◌, ℕ, List, ◌∷◌, ap, append_assoc, drop, get_or, length, sym}
 use Rattle.std.proofs.lemmas.List.{at_drop_more}
 use Rattle.dip_map.specs.Charts.{Chart}
-use Rattle.dip_orders.specs.declared.placed.PlacedOrder.{PlacedOrder}
+use Rattle.dip_orders_placed.specs.declared.placed.PlacedOrder.{PlacedOrder}
 use Rattle.dip_decide_rules.specs.declared.decisions.Step.{Step}
 use Rattle.dip_decide_rules.specs.Deciding.{Assignment, Known}
 use Rattle.dip_decide_rules.specs.Movement.{Situation}

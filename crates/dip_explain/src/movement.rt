@@ -1,7 +1,7 @@
 //! A movement, explained: a line for each step.
 ghost use Rattle.std.specs.Prelude.{◌≡◌, ◌++◌, OnOk, codes, length, string_bytes, true, false, [], ◌∷◌};
 ghost use Rattle.dip_map.specs.Boards.{IsOf};
-ghost use Rattle.dip_orders.specs.Standing.{units_of};
+ghost use Rattle.dip_orders_placed.specs.Standing.{units_of};
 ghost use Rattle.dip_decide_rules.specs.Given.{known_of, situation_of};
 ghost use Rattle.dip_decide_rules.specs.Results.{values_in};
 ghost use Rattle.dip_decide_rules.specs.Steps.{moves_of, paths_of};

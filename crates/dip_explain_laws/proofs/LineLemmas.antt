@@ -5,7 +5,7 @@ use Rattle.std.proofs.lemmas.Bool.{cases_Bool, both_ways, or_left, or_right}
 use Rattle.std.proofs.Math.Path.{fun_ext}
 use mathlib.Core.Logic.{◌⊎◌}
 use Rattle.dip_map.specs.Charts.{Chart}
-use Rattle.dip_orders.specs.declared.placed.PlacedOrder.{PlacedOrder}
+use Rattle.dip_orders_placed.specs.declared.placed.PlacedOrder.{PlacedOrder}
 use Rattle.dip_decide_rules.specs.declared.decisions.Decision.{Decision}
 use Rattle.dip_decide_rules.specs.declared.decisions.Step.{Step}
 use Rattle.dip_decide_rules.specs.declared.decisions.Step.TheVariants.{Forced, Circle, Knot}

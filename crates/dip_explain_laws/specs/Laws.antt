@@ -3,7 +3,7 @@ use Rattle.std.specs.Prelude.{◌≡◌, ℕ, ◌≤◌, ◌&&◌, ◌||◌, ◌
 use Rattle.std.specs.declared.alloc.Global.{Global}
 use Rattle.dip_map.specs.Boards.{Position}
 use Rattle.dip_map.specs.Charts.{Chart, are_provs_single}
-use Rattle.dip_orders.specs.declared.placed.PlacedOrder.{PlacedOrder}
+use Rattle.dip_orders_placed.specs.declared.placed.PlacedOrder.{PlacedOrder}
 use Rattle.dip_decide_rules.specs.declared.decisions.Decision.{Decision}
 use Rattle.dip_decide_rules.specs.declared.decisions.Decision.TheVariants.{Move, Path, Support}
 use Rattle.dip_decide_rules.specs.declared.decisions.Resolution.{Resolution}

@@ -4,8 +4,8 @@ use Rattle.dip_names.specs.declared.names.Place.{Place}
 use Rattle.dip_map.specs.declared.boards.Dislodged.{Dislodged}
 use Rattle.dip_map.specs.Boards.{Position, is_held}
 use Rattle.dip_map.specs.Charts.{Chart}
-use Rattle.dip_orders.specs.Retreats.{is_open, is_origin, next_places}
-use Rattle.dip_orders.specs.Standing.{is_same_unit}
+use Rattle.dip_orders_placed.specs.Retreats.{is_open, is_origin, next_places}
+use Rattle.dip_orders_placed.specs.Standing.{is_same_unit}
 use Rattle.dip_orders.specs.Texts.{order_text, place_text}
 use Rattle.dip_turn.specs.Retreating.{is_in, refuge}
 use Rattle.dip_turn.specs.RetreatLine.{RetreatLine}

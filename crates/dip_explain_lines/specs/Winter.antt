@@ -5,11 +5,11 @@ use Rattle.dip_names.specs.Kinds.{is_kind}
 use Rattle.dip_names.specs.declared.names.Unit.{Unit as AUnit}
 use Rattle.dip_map.specs.Boards.{Position, centres_owned, units_counted}
 use Rattle.dip_map.specs.Charts.{Chart, powers, province, realm}
-use Rattle.dip_orders.specs.Allowances.{builds_due, removals_due, vacant_homes}
+use Rattle.dip_orders_placed.specs.Allowances.{builds_due, removals_due, vacant_homes}
 use Rattle.dip_orders.specs.Texts.{unit_text}
 use Rattle.dip_turn.specs.Adjusting.{is_among, units_of_power}
 use Rattle.dip_turn.specs.Disorder.{distance_home, first_to_go, without}
-use Rattle.dip_turn.specs.declared.report.Adjustment.{Adjustment}
+use Rattle.dip_turn_report.specs.declared.report.Adjustment.{Adjustment}
 use Rattle.dip_turn.specs.Waiver.{Waiver}
 
 -- how many units a power may build, and by which numbers

@@ -1,8 +1,8 @@
 //! The explanation of retreats.
 ghost use Rattle.std.specs.Prelude.{◌≡◌, ◌++◌, IfOk, OnOk, find, flat_map, string_bytes};
-ghost use Rattle.dip_orders.specs.Retreats.{is_open, is_origin};
+ghost use Rattle.dip_orders_placed.specs.Retreats.{is_open, is_origin};
 ghost use Rattle.dip_turn.specs.Retreating.{is_in, refuge};
-ghost use Rattle.dip_orders.specs.Standing.{is_same_unit};
+ghost use Rattle.dip_orders_placed.specs.Standing.{is_same_unit};
 ghost use Rattle.dip_explain_lines.specs.Retreats as r;
 
 use dip_map::{Board, Dislodged, Map};

@@ -2,7 +2,7 @@
 use Rattle.std.specs.Prelude.{ℕ, Bool, not, List, ◌++◌, flat_map, ◌∷◌, [], codes, Option, None, Some}
 use Rattle.dip_map.specs.Charts.{Chart, province}
 use Rattle.dip_orders.specs.Texts.{order_text, unit_text}
-use Rattle.dip_orders.specs.declared.placed.PlacedOrder.{PlacedOrder}
+use Rattle.dip_orders_placed.specs.declared.placed.PlacedOrder.{PlacedOrder}
 use Rattle.dip_decide_rules.specs.declared.decisions.Decision.{Decision}
 use Rattle.dip_decide_rules.specs.Corners.{corner, rises}
 use Rattle.dip_decide_rules.specs.Deciding.{Assignment, Known}

@@ -1,4 +1,6 @@
 //! The program over what the system hands it.
+ghost use Rattle.std.specs.Prelude.{◌≡◌, ◌≤◌};
+ghost use Rattle.dip_judge_commands.specs.Failures as failures;
 
 use dip_judge_commands::{Failure, System, run_as_asked, status_of};
 use sqlite::Unknown;
@@ -18,11 +20,20 @@ fn answer_the_system(rt: &HostRuntime) -> Result<(), Failure> {
     run_as_asked(&system, Unknown, texts.as_slice(), &mut reader, &mut writer)
 }
 
-/// The whole program: does what its words ask for, tells a failure on standard error, and gives the exit status.
-pub fn run_program(rt: &HostRuntime) -> u8 {
-    let outcome = answer_the_system(rt);
-    if let Err(failure) = &outcome {
+/// The exit status of a run; its failure is told on standard error.
+fn exit_status(rt: &HostRuntime, outcome: &Result<(), Failure>) -> u8
+    ensures status { result ≡ failures.exit_status outcome.now }
+    ensures most { result ≤ 5 }
+{
+    if let Err(failure) = outcome {
         let _ = rt.eprint(failure);
     }
-    status_of(&outcome)
+    status_of(outcome)
+}
+
+/// The whole program: does what its words ask for, tells a failure on standard error, and gives the exit status, from 0 to 5.
+pub fn run_program(rt: &HostRuntime) -> u8
+    ensures { result ≤ 5 }
+{
+    exit_status(rt, &answer_the_system(rt))
 }

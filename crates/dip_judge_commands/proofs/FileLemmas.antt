@@ -19,6 +19,7 @@ use Rattle.dip_store.specs.StoreFault.{StoreFault}
 use Rattle.dip_judge_words.specs.declared.args.Args.{Args}
 use Rattle.dip_judge_words.specs.declared.args.Args.TheVariants.{Init, Letters, Stored, Serve, Report, Check, Explain, Version}
 use Rattle.dip_judge_words.specs.declared.faults.UsageFault.{UsageFault}
+use Rattle.dip_judge_runs.specs.MapFiles.{IsMapOf}
 use Rattle.dip_judge_runs.specs.declared.map_file.NoMap.{NoMap}
 use Rattle.dip_judge_commands.proofs.StoredLemmas.{some_fault}
 use Rattle.clap.specs.Words.{Text}
@@ -128,6 +129,12 @@ module _ {S : Type 0} (g : Ghosts S) (image : Image) (m : Chart) (known left bef
   stops_as stops = subst (λ a. IfErr r (λ f. StopsStore g image m known left before after a f opened)) (sym is) stops
 
 -- what is asked for is so whatever the failure
+-- the map of a path and a text is that of those which are the same
+pub map_named_so : (standard : List ℕ) (path named : Option (List ℕ)) (text said : List ℕ) (m : Chart) → path ≡ named → text ≡ said → IsMapOf standard path said m
+    → IsMapOf standard named text m
+map_named_so standard path named text said m same_path same_text is =
+    subst (λ (p : Option (List ℕ)). IsMapOf standard p text m) same_path (subst (λ (t : List ℕ). IsMapOf standard path t m) (sym same_text) is)
+
 pub if_asked : (standard : List ℕ) (words : List Text) (P : Args → Chart → Type 0) (f : Failure) → IsAskedFor standard words P → IfAsked standard words f P
 if_asked standard words P (Usage fault) asked = tt
 if_asked standard words P (Map fault) asked = tt

@@ -64,6 +64,10 @@ printed Negative = Some []
 abbrev pub listening_text : ℕ → Option (List ℕ)
 listening_text port = Some (codes "dip_judge: listens on 127.0.0.1:" ++ decimal port ++ codes "\n")
 
+-- what `check` tells of a long input on a terminal
+abbrev pub progress_text : ℕ → Option (List ℕ)
+progress_text papers = Some (codes "dip_judge: " ++ decimal papers ++ codes " papers right so far\n")
+
 -- why there are no arguments: want of memory, or one of them is no text
 abbrev pub words_fault : ErrorKind → UsageFault
 words_fault OutOfMemory = no_words

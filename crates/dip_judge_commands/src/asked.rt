@@ -184,7 +184,7 @@ fn do_asked<S: Start, R: Read, W: Write>(
         Args::Report { store, game, .. } => {
             report_file(system, start, store, map, text, game, writer)
         }
-        Args::Check { .. } => (check(system.alloc(), reader, writer, map), None),
+        Args::Check { .. } => (check(system.alloc(), reader, writer, system, map), None),
         Args::Explain { paper, .. } => (explain(system.alloc(), reader, writer, map, *paper), None),
         Args::Version => (write_version(writer), None),
     }

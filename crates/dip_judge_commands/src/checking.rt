@@ -4,19 +4,20 @@ ghost use Rattle.dip_check_runs.specs.Runs.{IsChecked, IsExplained, TellsIfGame}
 ghost use Rattle.dip_judge_commands.specs.Asked.{FailsCheck, FailsExplaining};
 
 use crate::failures::Failure;
-use dip_check_runs::{check_papers, explain_paper};
+use dip_check_runs::{Progress, check_papers, explain_paper};
 use dip_map::Map;
 use std::alloc::Global;
 use std::io::{Read, Write};
 
-/// Checks the papers that the reader has.
+/// Checks the papers that the reader has; `progress` hears how many are right so far.
 ///
 /// # Errors
 /// `Negative`, and what isn't was written; or what `check_papers` has.
-pub(crate) fn check<R: Read, W: Write>(
+pub(crate) fn check<R: Read, W: Write, P: Progress>(
     alloc: Global,
     reader: &mut R,
     writer: &mut W,
+    progress: &P,
     map: &Map,
 ) -> Result<(), Failure>
     ensures right { OnOk result (IsChecked map.now (R.remaining reader.old)
@@ -25,7 +26,7 @@ pub(crate) fn check<R: Read, W: Write>(
     ensures wrong { IfErr result (FailsCheck map.now (R.remaining reader.old)
         (R.remaining reader.new) (W.contents writer.old) (W.contents writer.new)) }
 {
-    match check_papers(alloc, reader, writer, map) {
+    match check_papers(alloc, reader, writer, progress, map) {
         Ok(true) => Ok(()),
         Ok(false) => Err(Failure::Negative),
         Err(fault) => Err(Failure::Checking(fault)),

@@ -1,5 +1,5 @@
 //! Why the program ends early: its exit status, and what it prints on standard error.
-ghost use Rattle.std.specs.Prelude.{◌≡◌};
+ghost use Rattle.std.specs.Prelude.{◌≡◌, ◌≤◌};
 ghost use Rattle.dip_judge_words.specs.declared.faults.UsageFault.TheVariants.{Memory as no_words};
 ghost use Rattle.dip_judge_commands.specs.Failures.{exit_status, status_of, words_fault};
 ghost use Rattle.dip_judge_commands.specs.declared.failures.Failure.TheVariants.{Usage};
@@ -47,7 +47,8 @@ impl Failure {
     /// The exit status: 1 where the answer is no, 2 for the arguments, 3 for the map, 4 for the store, its keeper and a game that isn't there, 5 for a map's
     /// file, the port, input, output or other want of memory.
     pub fn status(&self) -> u8
-        ensures { result ≡ status_of self.now }
+        ensures status { result ≡ status_of self.now }
+        ensures most { result ≤ 5 }
     {
         match self {
             Failure::Usage(UsageFault::Memory) => 5,
@@ -71,7 +72,8 @@ impl Failure {
 
 /// The exit status of a run of the program: 0 where it did what was asked.
 pub fn status_of(outcome: &Result<(), Failure>) -> u8
-    ensures { result ≡ exit_status outcome.now }
+    ensures status { result ≡ exit_status outcome.now }
+    ensures most { result ≤ 5 }
 {
     match outcome {
         Ok(()) => 0,

@@ -4,11 +4,12 @@ ghost use Rattle.sqlite.specs.Files.{IsOpened, file_state};
 ghost use Rattle.sqlite.specs.Start.{FindsIn};
 ghost use Rattle.sqlite.specs.State.{HasCleanDisk};
 ghost use Rattle.sqlite.specs.WalFiles.{image_at};
-ghost use Rattle.dip_judge_commands.specs.Failures.{listening_text};
+ghost use Rattle.dip_judge_commands.specs.Failures.{listening_text, progress_text};
 ghost use Rattle.dip_judge_commands.specs.Stores.{IsOpenFault, IsFindFault};
 ghost use Rattle.dip_judge_runs.specs.MapFiles as said;
 ghost use Rattle.dip_judge_runs.specs.MapFiles.{IsMapOf, IsNoMapOf};
 
+use dip_check_runs::Progress;
 use dip_judge_runs::{NoMap, read_map};
 use dip_map::{Map, STANDARD};
 use dip_store::{StoreFault, open_fault};
@@ -16,6 +17,7 @@ use mio::net;
 use sqlite::{Connection, FileFrom, FileStore, Start};
 use std::alloc::Global;
 use std::fs::OpenOptions;
+use std::io::IsTerminal;
 use std::net::{SocketAddr, TcpListener};
 use std::os::unix::fs::OpenOptionsExt;
 use std::path::Path;
@@ -26,7 +28,7 @@ use std::{fmt, fs, io};
 pub type Stored<S> = Connection<FileStore<FileFrom<S>>>;
 
 /// What a command may do of the system: take memory, read a map's file, open a store's file, listen on a port of 127.0.0.1 and tell
-/// that it does, and read the clock. It can print nothing else, and open and remove no other file.
+/// that it does, tell how far a check has come, and read the clock. It can print nothing else, and open and remove no other file.
 #[derive(Drop)]
 pub struct System<'a> {
     rt: &'a HostRuntime,
@@ -167,6 +169,15 @@ impl Clock for System<'_> {
     }
 }
 
+/// Each 10,000 papers of a check are told on standard error, where that is a terminal.
+impl Progress for System<'_> {
+    fn hear(&self, papers: u32) {
+        if papers % 10_000 == 0 && self.rt.stderr().is_terminal() {
+            let _ = self.rt.eprint(RightSoFar { papers });
+        }
+    }
+}
+
 /// The port of 127.0.0.1 that is listened on.
 ///
 /// It is printed as `dip_judge: listens on 127.0.0.1:`, the port and LF.
@@ -180,5 +191,21 @@ impl fmt::Display for Listening {
 
     fn fmt<W: fmt::Write>(&self, f: &mut fmt::Formatter<W>) -> fmt::Result {
         write!(f, "dip_judge: listens on 127.0.0.1:{}\n", self.port)
+    }
+}
+
+/// How many papers a check has found right so far.
+///
+/// It is printed as `dip_judge: `, the number, ` papers right so far` and LF.
+#[derive(Clone, Copy, Drop)]
+struct RightSoFar {
+    papers: u32,
+}
+
+impl fmt::Display for RightSoFar {
+    ghost output = { λ right. progress_text right.papers };
+
+    fn fmt<W: fmt::Write>(&self, f: &mut fmt::Formatter<W>) -> fmt::Result {
+        write!(f, "dip_judge: {} papers right so far\n", self.papers)
     }
 }

@@ -1,13 +1,13 @@
 -- The board of the opening is one of its map.
-use Rattle.std.proofs.Common.{◌≡◌, ℕ, ◌+◌, ◌<◌, length, drop, List, [], ◌∷◌, Option, Some, None, ◌∙◌, true, zero, suc, get_or, arith, cond, nat_lt, inl, inr, refl, ◌==◌, Bool, not, map, ap, ◌&&◌, ◌||◌, ◌-◌, take, sym, is_some}
-use Rattle.std.proofs.lemmas.List.{drop_more, take_rest, length-map}
+use Rattle.std.proofs.Common.{◌≡◌, ℕ, ◌+◌, ◌<◌, length, drop, List, [], ◌∷◌, Option, Some, None, ◌∙◌, true, zero, suc, get_or, arith, cond, nat_lt, inl, inr, refl, ◌==◌, Bool, not, map, ap, ◌&&◌, ◌||◌, ◌-◌, take, sym, subst, is_some}
+use Rattle.std.proofs.lemmas.List.{drop_more, get_or_past, take_rest, length-map}
 use Rattle.std.proofs.lemmas.List.FromFn.{length-range_with_len}
 use Rattle.std.proofs.lemmas.Bool.{cases_Bool, cases_lt, false≢true, le-ltb}
 use Rattle.std.proofs.lemmas.List.Sums.{passes_at_first}
 use Rattle.std.specs.List.{list_any, position_or_len, range_with_len}
 use Rattle.dip_map.specs.declared.boards.Dislodged.{Dislodged}
 use Rattle.dip_names.specs.declared.names.Unit.{Unit as AUnit}
-use Rattle.dip_map_chart.specs.Charts.{Chart, Realm, IsMap, provs, no_realm, is_centre, are_units_single}
+use Rattle.dip_map_chart.specs.Charts.{Chart, Province, Realm, IsMap, provs, no_province, no_realm, is_centre, are_units_single}
 use Rattle.dip_map.specs.Boards.{IsOf, is_power_if_any, owner_at, opening}
 
 owners_count : (m : Chart) → length (map (owner_at m) (provs m)) ≡ length m.provinces
@@ -70,3 +70,11 @@ opening_law m ok = record {
   owners_count = owners_count m;
   owners_centres = λ p h. let z : 0 + p ≡ p = omega arith in rw z at (owned_home_at m ok 0 (length m.provinces) p h);
 }
+
+-- a centre is a province of the map
+pub centre_low : (m : Chart) (p : ℕ) → is_centre m p ≡ true → p < length m.provinces
+centre_low m p h =
+    elim (cases_lt p (length m.provinces)) [
+      | inl low ↦ low
+      | inr past ↦ absurd (false≢true (subst (λ (r : Province). r.centre ≡ true) (get_or_past m.provinces p no_province past) h))
+    ]

@@ -1,6 +1,4 @@
 pub mod Stated
-pub mod Telling
-pub mod Spelled
 pub mod Boards
 pub use Rattle.dip_map_chart.specs.Charts
 pub use Rattle.dip_map_chart.specs.Walks

@@ -3,7 +3,6 @@ pub mod Found
 pub mod KeyLaws
 pub mod EntryLaws
 pub mod MapLaws
-pub mod CheckLaws
 pub mod GraphLaws
 pub mod WalkLaws
 pub mod DistanceLaws

@@ -4,12 +4,10 @@
 mod checks;
 mod distances;
 mod entries;
-mod laws;
 mod parts;
 mod search;
 
 pub use distances::Distances;
 pub use entries::are_units_single;
-pub use laws::maps_are_parts_without_a_fault;
 pub use parts::{Parts, Province, Realm, Shore};
 pub use search::{distance_at, least_distances};

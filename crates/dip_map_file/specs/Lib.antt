@@ -2,4 +2,3 @@ pub mod Drafts
 pub mod Fields
 pub mod Files
 pub mod Tables
-pub mod Spelling

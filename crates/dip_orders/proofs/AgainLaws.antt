@@ -18,14 +18,14 @@ use Rattle.dip_map.specs.Charts.{Chart, IsMap, Province, Shore, no_shore, coast_
 use Rattle.dip_map.specs.Boards.{Position, IsOf, is_dislodged, is_prov_if_any}
 use Rattle.dip_orders_lines.specs.Forms.{is_coast}
 use Rattle.dip_orders_lines.specs.declared.forms.Mention.{Mention}
-use Rattle.dip_orders.specs.Retreats.{is_open, next_places}
+use Rattle.dip_orders_placed.specs.Retreats.{is_open, next_places}
 use Rattle.dip_orders.specs.Rules.{unit_checks, sail_checks, move_checks, move_place, site, site_checks, retreat_checks, unit_of, the_unit, dislodged_of, the_dislodged}
 use Rattle.dip_orders.specs.Conditions.{is_on_map, prov_named, no_place, no_unit, no_dislodged, unit_at, dislodged_at, knows_coast, first_in, named_in, place_in}
 use Rattle.dip_names.specs.Kinds.{is_coastal, is_kind}
 use Rattle.dip_orders.specs.declared.faults.OrderFault.{OrderFault}
 use Rattle.dip_orders.specs.declared.faults.OrderFault.TheVariants.{OutOfReach, NoSuchRetreat}
 use Rattle.dip_orders.proofs.CheckLaws.{Hold}
-use Rattle.dip_orders.proofs.FindLaws.{some_is, find_passes, find_among, find_narrow, find_kept_in}
+use Rattle.dip_orders_placed.proofs.FindLaws.{some_is, find_passes, find_among, find_narrow, find_kept_in}
 use Rattle.dip_orders.proofs.SpotLaws.{test_at, IsPlaceOf, shape_of, coast_for, code_named, code_on_map, knows_own, mention_of, place_low, spot_of, stands_at, written}
 
 is_kind_self : (k : Kind) → is_kind k k ≡ true

@@ -15,20 +15,20 @@ use Rattle.dip_map.specs.Boards.{Position, IsOf, is_vacant, owns}
 use Rattle.dip_orders_lines.specs.Forms.{is_form, is_spot}
 use Rattle.dip_orders_lines.specs.declared.forms.Form.{Form}
 use Rattle.dip_orders_lines.specs.declared.forms.Form.TheVariants.{Hold as HoldForm, Move as MoveForm, SupportHold, SupportMove, Convoy, Retreat, Disband, Build, Remove}
-use Rattle.dip_orders.specs.Allowances.{builds_due, removals_due}
+use Rattle.dip_orders_placed.specs.Allowances.{builds_due, removals_due}
 use Rattle.dip_orders.specs.Checks.{Check, must}
 use Rattle.dip_orders.specs.Lawful.{IsLawful, IsSite, Reaches}
-use Rattle.dip_orders.specs.Retreats.{is_place_among, retreats_of}
+use Rattle.dip_orders_placed.specs.Retreats.{is_place_among, retreats_of}
 use Rattle.dip_orders.specs.Reading.{order_of}
 use Rattle.dip_orders.specs.Rules.{unit_checks, sail_checks, move_checks, move_place, other_checks, retreat_checks, site, site_checks, is_supportable, unit_of, the_unit, dislodged_of, the_dislodged, the_other, checks_of, order_in}
 use Rattle.dip_orders.specs.Conditions.{prov_named, no_place, no_unit, other_at, knows_coast, first_in, named_in, place_in, could_move, could_come, may_convoy, may_build, builds_elsewhere, removals_elsewhere}
 use Rattle.dip_names.specs.Kinds.{is_kind, is_coastal, is_sea}
 use Rattle.dip_orders.specs.declared.faults.OrderFault.{OrderFault}
 use Rattle.dip_orders.specs.declared.faults.OrderFault.TheVariants.{OutOfReach, SupportOutOfReach, WrongKind, NoConvoyThere, WrongCoast, AllowanceUsed, NoSuchRetreat}
-use Rattle.dip_orders.specs.declared.placed.PlacedOrder.{PlacedOrder}
+use Rattle.dip_orders_placed.specs.declared.placed.PlacedOrder.{PlacedOrder}
 use Rattle.dip_orders.proofs.AgainLaws.{built_again, dislodged_again, unit_again}
 use Rattle.dip_orders.proofs.CheckLaws.{Hold, hold_back, hold_front, ok_holds}
-use Rattle.dip_orders.proofs.FindLaws.{find_any, some_is}
+use Rattle.dip_orders_placed.proofs.FindLaws.{find_any, some_is}
 use Rattle.dip_orders.proofs.ReadingLaws.{Forms, read_form}
 use Rattle.dip_orders.proofs.RoundTrip.{coast_fine}
 use Rattle.dip_orders.proofs.SpotLaws.{IsPlaceOf, named_low}

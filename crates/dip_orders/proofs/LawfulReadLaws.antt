@@ -13,29 +13,29 @@ use Rattle.dip_map.specs.declared.boards.Dislodged.{Dislodged}
 use Rattle.dip_map.specs.Charts.{Chart, IsMap, Province, Realm, are_places_single, army_next, fleet_next, home, no_province, no_realm, province, realm, shore, coast_of, is_army_next, is_fleet_place, is_unit, is_centre, is_power_name, may_stand}
 use Rattle.dip_map.specs.Boards.{Position, IsOf, is_dislodged, is_prov_if_any}
 use Rattle.dip_orders_lines.specs.Forms.{is_form, is_spot}
-use Rattle.dip_orders.specs.Allowances.{builds_due, removals_due}
+use Rattle.dip_orders_placed.specs.Allowances.{builds_due, removals_due}
 use Rattle.dip_orders_lines.specs.Texts.{canonical_text}
 use Rattle.dip_orders_lines.specs.Reading.{form_in}
 use Rattle.dip_orders.specs.Checks.{Check, must}
 use Rattle.dip_orders.specs.Laws.{LawfulOrdersAreRead}
 use Rattle.dip_orders.specs.Lawful.{IsAllowed, IsSite, IsThere, MayAid, MayCarry, MayCome, Reaches, Stands}
-use Rattle.dip_orders.specs.Retreats.{is_place_among, next_places, on_foot, retreats_of}
+use Rattle.dip_orders_placed.specs.Retreats.{is_place_among, next_places, on_foot, retreats_of}
 use Rattle.dip_orders.specs.Rules.{checks_of, unit_checks, move_checks, move_place, other_checks, order_in, retreat_checks, site, site_checks, is_supportable, unit_of, the_unit, dislodged_of, the_dislodged}
 use Rattle.dip_orders.specs.Conditions.{is_adjustment, is_retreat, army_place, could_move, first_in, is_on_map, may_build, may_convoy, may_travel, no_dislodged, no_place, no_unit, other_at, place_in, prov_named, unit_at, dislodged_at, knows_coast, builds_elsewhere, removals_elsewhere}
 use Rattle.dip_names.specs.Kinds.{is_sea, is_coastal, is_kind}
 use Rattle.dip_orders.specs.Texts.{order_text}
 use Rattle.dip_orders.specs.declared.faults.OrderFault.TheVariants.{OutOfReach, SupportOutOfReach, WrongKind, NoBuildThere, NoConvoyThere, WrongCoast, AllowanceUsed, NoSuchRetreat}
-use Rattle.dip_orders.specs.declared.placed.Other.{Other}
-use Rattle.dip_orders.specs.declared.placed.Order.{Order}
-use Rattle.dip_orders.specs.declared.placed.Order.TheVariants.{Hold as Holds, Move as Moves, SupportHold as SupportsHold, SupportMove as SupportsMove, Convoy as Convoys, Retreat as Retreats, Disband as Disbands, Build as Builds, Remove as Removes}
-use Rattle.dip_orders.specs.declared.placed.PlacedOrder.{PlacedOrder}
+use Rattle.dip_orders_placed.specs.declared.placed.Other.{Other}
+use Rattle.dip_orders_placed.specs.declared.placed.Order.{Order}
+use Rattle.dip_orders_placed.specs.declared.placed.Order.TheVariants.{Hold as Holds, Move as Moves, SupportHold as SupportsHold, SupportMove as SupportsMove, Convoy as Convoys, Retreat as Retreats, Disband as Disbands, Build as Builds, Remove as Removes}
+use Rattle.dip_orders_placed.specs.declared.placed.PlacedOrder.{PlacedOrder}
 use Rattle.dip_orders.proofs.AgainLaws.{named_again}
 use Rattle.dip_orders.proofs.CheckLaws.{Hold, hold_both, holds_ok}
 use Rattle.dip_orders.proofs.FormLaws.{NamesArmy, order_canonical, printed}
-use Rattle.dip_orders.proofs.FindLaws.{find_among, find_passes, some_is}
+use Rattle.dip_orders_placed.proofs.FindLaws.{find_among, find_passes, some_is}
 use Rattle.dip_orders.proofs.PlaceLaws.{AreOfFleets, found_one, only_shore_there, place_of, sails_to, same_place}
 use Rattle.dip_orders.proofs.ReadingLaws.{Forms, form_read}
-use Rattle.dip_orders.proofs.RetreatLaws.{retreats_exact, retreats_single}
+use Rattle.dip_orders_placed.proofs.RetreatLaws.{retreats_exact, retreats_single}
 use Rattle.dip_orders.proofs.RoundTrip.{Again}
 use Rattle.dip_orders.proofs.SpotLaws.{IsPlaceOf, bare_fine, bare_spot, code_named, code_on_map, coast_for, mention_of, place_low, spot_fine, spot_of, stands_at, test_at, written}
 

@@ -1,7 +1,3 @@
-pub mod KeptLaws
-pub mod FindLaws
-pub mod RetreatLaws
-pub mod AllowanceLaws
 pub mod CheckLaws
 pub mod StepLaws
 pub mod SpotLaws
@@ -10,7 +6,8 @@ pub mod AgainLaws
 pub mod RoundTrip
 pub mod ReadingLaws
 pub mod LawfulLaws
-pub mod StandingLaws
+pub mod OpenLaws
+pub mod ForceLaws
 pub mod PlaceLaws
 pub mod PrintLaws
 pub mod LawfulReadLaws

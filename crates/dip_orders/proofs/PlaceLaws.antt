@@ -10,12 +10,12 @@ use Rattle.dip_names.specs.declared.names.Terrain.{Terrain}
 use Rattle.dip_names.specs.declared.names.Terrain.TheVariants.{Inland, Coast, Sea}
 use Rattle.dip_names.specs.declared.names.Place.{Place}
 use Rattle.dip_map.specs.Charts.{Chart, IsMap, Province, Shore, no_shore, province, shore, coast_of, are_places_single, is_fleet_place, is_shaped, is_coast_name, has_one_shore, has_named_shores}
-use Rattle.dip_orders.specs.Retreats.{is_place_among}
+use Rattle.dip_orders_placed.specs.Retreats.{is_place_among}
 use Rattle.dip_orders.specs.Rules.{sail_checks}
 use Rattle.dip_orders.specs.Conditions.{first_in, count_in, named_in, no_place, place_in}
 use Rattle.dip_orders.specs.declared.faults.OrderFault.{OrderFault}
 use Rattle.dip_orders.proofs.CheckLaws.{Hold}
-use Rattle.dip_orders.proofs.KeptLaws.{count_cons}
+use Rattle.dip_orders_placed.proofs.KeptLaws.{count_cons}
 use Rattle.dip_orders.proofs.SpotLaws.{shape_of, test_at, written}
 
 -- two places with one province and one coast are one

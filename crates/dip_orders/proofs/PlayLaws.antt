@@ -16,25 +16,25 @@ use Rattle.dip_map.specs.declared.boards.Season.{Season}
 use Rattle.dip_map.specs.declared.boards.Season.TheVariants.{SpringMoves, SpringRetreats, FallMoves, FallRetreats, Winter}
 use Rattle.dip_map.specs.Charts.{Chart, IsMap, are_provs_single, are_units_single, fleet_next, home, is_fleet_next}
 use Rattle.dip_map.specs.Boards.{Position, IsOf, centres_owned, is_left, is_power, is_vacant, owner, owns, units_counted, is_held}
-use Rattle.dip_orders.specs.Allowances.{vacant_homes}
+use Rattle.dip_orders_placed.specs.Allowances.{vacant_homes}
 use Rattle.dip_orders.specs.Laws.{AidersCouldMove, AreVacantHomes, BuildsAreInVacantHomes, BuildsHaveRoom, CouldMove, HoldersCouldMove, IsEmpty, IsGiven, IsNeighbour, IsVacantHome, LawfulOrdersAreRead, NoMoreHaveRoom, NoneRetreatsToItsAttacker, OnlyMovementIsInForce, OrdersAreOfTheirPhase, RemovalsAreSurplus, RetreatsAreToVacantProvinces, belongs, is_of_movement, is_of_retreats, is_of_winter}
 use Rattle.dip_orders.specs.Lawful.{IsAllowed, IsLawful, Reaches, Stands}
 use Rattle.dip_orders.specs.Reading.{order_of}
-use Rattle.dip_orders.specs.Retreats.{MayRetreat, is_origin}
-use Rattle.dip_orders.specs.Standing.{is_done_from, is_in_force, standing_orders}
+use Rattle.dip_orders_placed.specs.Retreats.{MayRetreat, is_origin}
+use Rattle.dip_orders_placed.specs.Standing.{is_done_from, is_in_force, standing_orders}
 use Rattle.dip_orders.specs.Conditions.{could_move, dislodged_at, first_in, is_adjustment, is_movement, is_retreat, may_convoy, no_place}
 use Rattle.dip_orders.specs.Texts.{order_text}
-use Rattle.dip_orders.specs.declared.placed.Order.{Order}
-use Rattle.dip_orders.specs.declared.placed.Order.TheVariants.{Hold, Move, SupportHold, SupportMove, Convoy, Retreat, Disband, Build, Remove}
-use Rattle.dip_orders.specs.declared.placed.PlacedOrder.{PlacedOrder}
-use Rattle.dip_orders.proofs.AllowanceLaws.{distinct_from}
-use Rattle.dip_orders.proofs.FindLaws.{find_any, find_passes, some_is}
-use Rattle.dip_orders.proofs.KeptLaws.{any_kept}
+use Rattle.dip_orders_placed.specs.declared.placed.Order.{Order}
+use Rattle.dip_orders_placed.specs.declared.placed.Order.TheVariants.{Hold, Move, SupportHold, SupportMove, Convoy, Retreat, Disband, Build, Remove}
+use Rattle.dip_orders_placed.specs.declared.placed.PlacedOrder.{PlacedOrder}
+use Rattle.dip_orders_placed.proofs.AllowanceLaws.{distinct_from}
+use Rattle.dip_orders_placed.proofs.FindLaws.{find_any, find_passes, some_is}
+use Rattle.dip_orders_placed.proofs.KeptLaws.{any_kept}
 use Rattle.dip_orders.proofs.LawfulReadLaws.{any_at, home_centre}
 use Rattle.dip_orders.proofs.PlaceLaws.{place_itself}
-use Rattle.dip_orders.proofs.RetreatLaws.{retreats_exact}
+use Rattle.dip_orders_placed.proofs.RetreatLaws.{retreats_exact}
 use Rattle.dip_orders.proofs.SpotLaws.{test_at}
-use Rattle.dip_orders.proofs.StandingLaws.{element_cases, standing_in_force}
+use Rattle.dip_orders_placed.proofs.StandingLaws.{element_cases, standing_in_force}
 
 -- what is known of orders that are read
 abbrev pub AreLawful : Type 0

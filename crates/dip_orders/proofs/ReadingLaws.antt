@@ -10,7 +10,7 @@ use Rattle.dip_orders.specs.Reading.{answer_to, order_of}
 use Rattle.dip_orders.specs.Rules.{answer, checks_of, order_in}
 use Rattle.dip_orders.specs.Texts.{order_text}
 use Rattle.dip_orders.specs.declared.faults.OrderFault.TheVariants.{CannotBeRead}
-use Rattle.dip_orders.specs.declared.placed.PlacedOrder.{PlacedOrder}
+use Rattle.dip_orders_placed.specs.declared.placed.PlacedOrder.{PlacedOrder}
 use Rattle.dip_orders.proofs.CheckLaws.{holds_ok, ok_holds}
 use Rattle.dip_orders.proofs.FormLaws.{printed}
 use Rattle.dip_orders.proofs.RoundTrip.{checks_alone, order_again}

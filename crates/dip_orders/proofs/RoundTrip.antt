@@ -17,16 +17,16 @@ use Rattle.dip_orders_lines.specs.declared.forms.Spot.{Spot}
 use Rattle.dip_orders_lines.specs.declared.forms.Mention.{Mention}
 use Rattle.dip_orders_lines.specs.declared.forms.Form.{Form}
 use Rattle.dip_orders_lines.specs.declared.forms.Form.TheVariants.{Hold as HoldForm, Move as MoveForm, SupportHold, SupportMove, Convoy, Retreat, Disband, Build, Remove}
-use Rattle.dip_orders.specs.Allowances.{builds_due, removals_due}
+use Rattle.dip_orders_placed.specs.Allowances.{builds_due, removals_due}
 use Rattle.dip_orders.specs.Checks.{Check, must}
-use Rattle.dip_orders.specs.Retreats.{retreats_of}
+use Rattle.dip_orders_placed.specs.Retreats.{retreats_of}
 use Rattle.dip_orders.specs.Rules.{site, site_checks, unit_checks, move_checks, move_place, other_checks, retreat_checks, is_supportable, unit_of, the_unit, dislodged_of, the_dislodged, the_other, checks_of, order_in, answer}
 use Rattle.dip_orders.specs.Conditions.{builds_elsewhere, may_build, is_on_map, prov_named, no_unit, other_at, knows_coast, place_in, could_move, may_convoy, removals_elsewhere}
 use Rattle.dip_names.specs.Kinds.{is_coastal, is_kind, is_sea}
 use Rattle.dip_orders.specs.Texts.{order_text}
 use Rattle.dip_orders.specs.declared.faults.OrderFault.TheVariants.{SupportOutOfReach, WrongKind, NoConvoyThere, WrongCoast, AllowanceUsed}
-use Rattle.dip_orders.specs.declared.placed.Order.TheVariants.{Hold as Holds, Move as Moves, SupportHold as SupportsHold, SupportMove as SupportsMove, Convoy as Convoys, Retreat as Retreats, Disband as Disbands, Build as Builds, Remove as Removes}
-use Rattle.dip_orders.specs.declared.placed.PlacedOrder.{PlacedOrder}
+use Rattle.dip_orders_placed.specs.declared.placed.Order.TheVariants.{Hold as Holds, Move as Moves, SupportHold as SupportsHold, SupportMove as SupportsMove, Convoy as Convoys, Retreat as Retreats, Disband as Disbands, Build as Builds, Remove as Removes}
+use Rattle.dip_orders_placed.specs.declared.placed.PlacedOrder.{PlacedOrder}
 use Rattle.dip_orders.proofs.AgainLaws.{built_again, dislodged_again, left_again, moved_again, unit_again}
 use Rattle.dip_orders.proofs.CheckLaws.{Hold, hold_back, hold_both, hold_front, holds_ok, ok_holds}
 use Rattle.dip_orders.proofs.FormLaws.{NamesArmy, order_canonical, printed}

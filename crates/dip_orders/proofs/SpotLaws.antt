@@ -17,7 +17,7 @@ use Rattle.dip_orders_lines.specs.declared.forms.Spot.{Spot}
 use Rattle.dip_orders_lines.specs.declared.forms.Mention.{Mention}
 use Rattle.dip_orders.specs.Conditions.{is_on_map, prov_named, knows_coast}
 use Rattle.dip_orders.specs.Texts.{behind_slash, place_text}
-use Rattle.dip_orders.proofs.FindLaws.{some_is, position_low}
+use Rattle.dip_orders_placed.proofs.FindLaws.{some_is, position_low}
 
 -- a coast's name as it is written, none where it is empty
 abbrev pub written : List ℕ → Option (List ℕ)

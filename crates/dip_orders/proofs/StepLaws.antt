@@ -16,7 +16,7 @@ use Rattle.dip_orders_lines.specs.declared.forms.Form.{Form}
 use Rattle.dip_orders_lines.specs.declared.forms.Form.TheVariants.{Hold as HoldForm, Move as MoveForm, SupportHold, SupportMove, Convoy, Retreat, Disband, Build, Remove}
 use Rattle.dip_orders_lines.specs.Forms.{spots_of}
 use Rattle.dip_orders.specs.Checks.{Check, must, outcome}
-use Rattle.dip_orders.specs.Retreats.{is_open, next_places, on_foot}
+use Rattle.dip_orders_placed.specs.Retreats.{is_open, next_places, on_foot}
 use Rattle.dip_orders.specs.Rules.{unit_checks, sail_checks, move_checks, move_place, other_checks, site_checks, site, unit_of, the_unit, dislodged_of, the_dislodged, retreat_checks, own_checks, order_in, answer}
 use Rattle.dip_orders.specs.Checking.{need, prov_at, checked_unit, sail_to, go_to, checked_other, site_at, order_steps, in_phase, hold_order, move_order, support_hold_order, support_move_order, convoy_order, carrier, build_order, remove_order, checked_dislodged, leave_to, retreat_order, disband_order}
 use Rattle.dip_names.specs.Results.{◌>>=◌}
@@ -24,9 +24,9 @@ use Rattle.dip_orders.specs.Conditions.{is_in_phase, is_on_map, prov_named, no_p
 use Rattle.dip_names.specs.Kinds.{is_kind, is_sea}
 use Rattle.dip_orders.specs.declared.faults.OrderFault.{OrderFault}
 use Rattle.dip_orders.specs.declared.faults.OrderFault.TheVariants.{UnknownProvince, WrongKind, OutOfReach, CoastNeeded, WrongCoast, NoSuchUnit, NoConvoyThere, NotInThisPhase, NoSuchRetreat}
-use Rattle.dip_orders.specs.declared.placed.Order.TheVariants.{Move as Moves, Retreat as Retreats}
-use Rattle.dip_orders.specs.declared.placed.PlacedOrder.{PlacedOrder}
-use Rattle.dip_orders.proofs.RetreatLaws.{first_open, count_open, named_open}
+use Rattle.dip_orders_placed.specs.declared.placed.Order.TheVariants.{Move as Moves, Retreat as Retreats}
+use Rattle.dip_orders_placed.specs.declared.placed.PlacedOrder.{PlacedOrder}
+use Rattle.dip_orders.proofs.OpenLaws.{first_open, count_open, named_open}
 use Rattle.dip_orders.proofs.CheckLaws.{Comes, if_step, need_step, need_last, found_step}
 use Rattle.dip_orders.proofs.AgainLaws.{opened}
 

@@ -7,14 +7,14 @@ use Rattle.dip_names.specs.declared.names.Unit.{Unit as AUnit}
 use Rattle.dip_map.specs.declared.boards.Dislodged.{Dislodged}
 use Rattle.dip_map.specs.Charts.{Chart, province, is_fleet_next, is_fleet_place}
 use Rattle.dip_map.specs.Boards.{Position}
-use Rattle.dip_orders.specs.Allowances.{builds_due, removals_due}
-use Rattle.dip_orders.specs.Retreats.{is_place_among, retreats_of}
+use Rattle.dip_orders_placed.specs.Allowances.{builds_due, removals_due}
+use Rattle.dip_orders_placed.specs.Retreats.{is_place_among, retreats_of}
 use Rattle.dip_orders.specs.Conditions.{is_movement, is_retreat, is_adjustment, army_place, unit_at, dislodged_at, other_at, could_move, could_come, may_convoy, may_travel, may_build, builds_elsewhere, removals_elsewhere}
 use Rattle.dip_names.specs.Kinds.{is_sea}
-use Rattle.dip_orders.specs.declared.placed.Other.{Other}
-use Rattle.dip_orders.specs.declared.placed.Order.{Order}
-use Rattle.dip_orders.specs.declared.placed.Order.TheVariants.{Hold, Move, SupportHold, SupportMove, Convoy, Retreat, Disband, Build, Remove}
-use Rattle.dip_orders.specs.declared.placed.PlacedOrder.{PlacedOrder}
+use Rattle.dip_orders_placed.specs.declared.placed.Other.{Other}
+use Rattle.dip_orders_placed.specs.declared.placed.Order.{Order}
+use Rattle.dip_orders_placed.specs.declared.placed.Order.TheVariants.{Hold, Move, SupportHold, SupportMove, Convoy, Retreat, Disband, Build, Remove}
+use Rattle.dip_orders_placed.specs.declared.placed.PlacedOrder.{PlacedOrder}
 
 -- a destination can be reached: an army's by land or by a convoy between two coasts, a fleet's by one of its neighbours
 abbrev pub Reaches : Chart → Kind → Place → Place → Bool → Type 0

@@ -9,16 +9,16 @@ use Rattle.dip_map.specs.declared.boards.Dislodged.{Dislodged}
 use Rattle.dip_map.specs.declared.boards.Season.{Season}
 use Rattle.dip_map.specs.declared.boards.Season.TheVariants.{SpringMoves, SpringRetreats, FallMoves, FallRetreats, Winter}
 use Rattle.dip_map.specs.Boards.{Position, IsOf, centres_owned, owner, units_counted}
-use Rattle.dip_orders.specs.Allowances.{allowance}
+use Rattle.dip_orders_placed.specs.Allowances.{allowance}
 use Rattle.dip_orders.specs.Lawful.{IsLawful}
 use Rattle.dip_orders.specs.Reading.{order_of}
-use Rattle.dip_orders.specs.Standing.{IsOnly, is_in_force, are_in_force, standing_orders, units_of}
+use Rattle.dip_orders_placed.specs.Standing.{IsOnly, is_in_force, are_in_force, standing_orders, units_of}
 use Rattle.dip_orders.specs.Conditions.{is_movement}
 use Rattle.dip_orders.specs.Texts.{order_text}
-use Rattle.dip_orders.specs.declared.placed.Order.{Order}
-use Rattle.dip_orders.specs.declared.placed.Order.TheVariants.{Hold, Move, SupportHold, SupportMove, Convoy, Retreat, Disband, Build, Remove}
-use Rattle.dip_orders.specs.declared.placed.Other.{Other}
-use Rattle.dip_orders.specs.declared.placed.PlacedOrder.{PlacedOrder}
+use Rattle.dip_orders_placed.specs.declared.placed.Order.{Order}
+use Rattle.dip_orders_placed.specs.declared.placed.Order.TheVariants.{Hold, Move, SupportHold, SupportMove, Convoy, Retreat, Disband, Build, Remove}
+use Rattle.dip_orders_placed.specs.declared.placed.Other.{Other}
+use Rattle.dip_orders_placed.specs.declared.placed.PlacedOrder.{PlacedOrder}
 
 -- the text of an order that was read is read again as that order
 abbrev pub TextsAreReadAgain : Type 0

@@ -1,6 +1,4 @@
 pub mod Faults
-pub mod Retreats
-pub mod Allowances
 pub mod Checks
 pub mod Conditions
 pub mod Rules
@@ -8,6 +6,5 @@ pub mod Lawful
 pub mod Checking
 pub mod Texts
 pub mod Reading
-pub mod Standing
 pub mod Laws
 pub mod Given

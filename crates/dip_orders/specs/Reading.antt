@@ -7,7 +7,7 @@ use Rattle.dip_orders_lines.specs.declared.forms.Form.{Form}
 use Rattle.dip_orders.specs.Rules.{answer}
 use Rattle.dip_orders.specs.declared.faults.OrderFault.{OrderFault}
 use Rattle.dip_orders.specs.declared.faults.OrderFault.TheVariants.{CannotBeRead}
-use Rattle.dip_orders.specs.declared.placed.PlacedOrder.{PlacedOrder}
+use Rattle.dip_orders_placed.specs.declared.placed.PlacedOrder.{PlacedOrder}
 
 abbrev pub answer_to : Chart → Position → ℕ → List PlacedOrder → Option Form → Result PlacedOrder OrderFault
 answer_to m b power pending None = Err CannotBeRead

@@ -5,13 +5,12 @@ ghost use Rattle.dip_map.specs.Charts.{home};
 ghost use Rattle.dip_orders.specs.Checking.{site_at, build_order, remove_order};
 ghost use Rattle.dip_orders.specs.Conditions.{may_build, is_build, is_remove, builds_elsewhere, removals_elsewhere};
 
-use crate::allowances::{builds_due, removals_due};
 use crate::faults::OrderFault;
-use crate::placed::{Order, PlacedOrder};
 use crate::units::{checked_unit, prov_of, unit_at};
 use dip_map::{Board, Map};
 use dip_names::{Kind, Place, Power, Prov, Unit};
 use dip_orders_lines::Mention;
+use dip_orders_placed::{Order, PlacedOrder, builds_due, removals_due};
 
 /// Whether a unit of a kind may be built there.
 fn may_build(map: &Map, board: &Board, power: Power, kind: Kind, p: Prov) -> bool

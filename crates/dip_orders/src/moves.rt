@@ -6,11 +6,11 @@ ghost use Rattle.dip_orders.specs.Checking.{march_to, coast_to, sail_to, go_to, 
 ghost use Rattle.dip_orders.specs.Conditions.{may_convoy, may_travel, first_in, count_in, named_in, could_move, could_come};
 
 use crate::faults::OrderFault;
-use crate::placed::{Order, PlacedOrder};
 use crate::units::{checked_unit, prov_of, unit_at};
 use dip_map::{Board, Map};
 use dip_names::{Kind, Place, Power, Prov, Unit};
 use dip_orders_lines::{Mention, Spot};
+use dip_orders_placed::{Order, PlacedOrder};
 
 /// Whether a convoy may lead from p to q.
 pub(crate) fn may_convoy(map: &Map, p: Prov, q: Prov) -> bool

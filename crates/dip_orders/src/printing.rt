@@ -3,9 +3,9 @@ ghost use Rattle.std.specs.Prelude.{◌≡◌, ◌++◌, OnOk, OnErr, codes, str
 ghost use Rattle.dip_map.specs.Charts.{province, shore};
 ghost use Rattle.dip_orders.specs.Texts.{behind_slash, place_text, kind_letter, other_text, verb_text, via_text, action_text, order_text, unit_text, Extends};
 
-use crate::placed::{Order, Other, PlacedOrder};
 use dip_map::Map;
 use dip_names::{Kind, Place, Prov, Unit};
+use dip_orders_placed::{Order, Other, PlacedOrder};
 use std::alloc::AllocError;
 
 /// Appends a slash and the coast's name; nothing where it has none.

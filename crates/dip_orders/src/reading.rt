@@ -8,12 +8,12 @@ use crate::builds::{build_of, remove_of};
 use crate::faults::OrderFault;
 use crate::moves::{hold_of, move_of};
 use crate::phases::is_in_phase;
-use crate::placed::PlacedOrder;
 use crate::supports::{convoy_of, support_hold_of, support_move_of};
 use crate::withdrawals::{disband_of, retreat_of};
 use dip_map::{Board, Map, Phase};
 use dip_names::Power;
 use dip_orders_lines::{Form, form_of_line};
+use dip_orders_placed::PlacedOrder;
 
 /// The order that a form is on this board, or the first check that it fails.
 fn placed_of(

@@ -6,11 +6,11 @@ ghost use Rattle.dip_orders.specs.Checking.{carrier, convoy_order, support_hold_
 
 use crate::faults::OrderFault;
 use crate::moves::{could_come, could_move, may_convoy};
-use crate::placed::{Order, Other, PlacedOrder};
 use crate::units::{checked_other, checked_unit, has_coast, prov_of, unit_at};
 use dip_map::{Board, Map};
 use dip_names::{Kind, Power, Prov, Unit};
 use dip_orders_lines::{Mention, Spot};
+use dip_orders_placed::{Order, Other, PlacedOrder};
 
 /// The order to support a unit that stays, or the first check that it fails.
 pub(crate) fn support_hold_of(

@@ -4,12 +4,11 @@ ghost use Rattle.dip_orders.specs.Checking.{leave_to, withdraw_to, disband_order
 
 use crate::faults::OrderFault;
 use crate::moves::sail_to;
-use crate::placed::{Order, PlacedOrder};
-use crate::retreating::is_open;
 use crate::units::{checked_dislodged, dislodged_at, prov_of};
 use dip_map::{Board, Dislodged, Map};
 use dip_names::{Kind, Place, Power, Prov, Unit};
 use dip_orders_lines::{Mention, Spot};
+use dip_orders_placed::{Order, PlacedOrder, is_open};
 
 /// Where in q a dislodged unit goes, if q is next to it.
 fn leave_to(map: &Map, unit: &Unit, q: Prov, coast: Option<[u8; 2]>) -> Result<Place, OrderFault>

@@ -14,7 +14,7 @@ use Rattle.dip_letters.specs.Notes.NoticeRequest.{Announce, Close, Pause, Period
 use Rattle.dip_orders.specs.Faults.{fault_number, fault_words}
 use Rattle.dip_orders.specs.Texts.{order_text, unit_text}
 use Rattle.dip_orders.specs.declared.faults.OrderFault.{OrderFault}
-use Rattle.dip_orders.specs.declared.placed.PlacedOrder.{PlacedOrder}
+use Rattle.dip_orders_placed.specs.declared.placed.PlacedOrder.{PlacedOrder}
 use Rattle.dip_names.specs.declared.names.Unit.{Unit}
 use Rattle.dip_reports.specs.declared.board_lines.Force.{Force}
 

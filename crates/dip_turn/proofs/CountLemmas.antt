@@ -9,9 +9,9 @@ use Rattle.std.specs.Cmp.{nat_eq_equiv, unsigned_Decides}
 use Rattle.std.specs.List.{list_any, range_with_len}
 use Rattle.dip_map.specs.Charts.{are_units_single}
 use Rattle.dip_names.specs.declared.names.Unit.{Unit as AUnit}
-use Rattle.dip_orders.proofs.AllowanceLaws.{distinct_from, provs_of, provs_single}
-use Rattle.dip_orders.proofs.KeptLaws.{count_cons}
-use Rattle.dip_orders.proofs.StandingLaws.{made_among}
+use Rattle.dip_orders_placed.proofs.AllowanceLaws.{distinct_from, provs_of, provs_single}
+use Rattle.dip_orders_placed.proofs.KeptLaws.{count_cons}
+use Rattle.dip_orders_placed.proofs.StandingLaws.{made_among}
 use Rattle.dip_turn.proofs.SingleLemmas.{behind, first, made_from}
 
 pub count_append : {A : Type 0} (p : A → Bool) (xs ys : List A) → count_by p (xs ++ ys) ≡ count_by p xs + count_by p ys

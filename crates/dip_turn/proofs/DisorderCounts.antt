@@ -3,7 +3,7 @@ use Rattle.std.proofs.Common.{◌≡◌, ◌≢◌, inl, inr, ℕ, ◌+◌, ◌-
 use Rattle.std.proofs.lemmas.Bool.{cases_Bool, eqb-true, eq-eqb}
 use Rattle.dip_map.specs.Charts.{Chart, are_units_single}
 use Rattle.dip_names.specs.declared.names.Unit.{Unit as AUnit}
-use Rattle.dip_orders.proofs.StandingLaws.{element_cases}
+use Rattle.dip_orders_placed.proofs.StandingLaws.{element_cases}
 use Rattle.dip_turn_phases.specs.Adjusting.{is_among}
 use Rattle.dip_turn_phases.specs.Disorder.{first_to_go, goes_before, in_disorder, sooner, without}
 use Rattle.dip_turn.proofs.CountLemmas.{all_kept}

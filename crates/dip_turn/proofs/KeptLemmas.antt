@@ -7,7 +7,7 @@ use Rattle.std.proofs.lemmas.List.Elements.{All-append, All-contains_itself, All
 use Rattle.dip_names.specs.declared.names.Unit.{Unit as AUnit}
 use Rattle.dip_map.specs.declared.boards.Dislodged.{Dislodged}
 use Rattle.dip_map.specs.Boards.{Position}
-use Rattle.dip_orders.specs.declared.placed.PlacedOrder.{PlacedOrder}
+use Rattle.dip_orders_placed.specs.declared.placed.PlacedOrder.{PlacedOrder}
 use Rattle.dip_turn_phases.specs.Adjusting.{disorder, is_among, is_given, units_built, units_kept, units_staying}
 use Rattle.dip_turn.specs.Laws.{RetreatsLoseNobodyElse, WintersAddBuildsAlone, WintersRemoveAlone}
 use Rattle.dip_turn_phases.specs.Retreating.{after_retreat, after_retreats}

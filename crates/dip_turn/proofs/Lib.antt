@@ -1,3 +1,4 @@
+pub mod ApartLemmas
 pub mod RefugeLemmas
 pub mod CalendarLemmas
 mod AscendingLemmas

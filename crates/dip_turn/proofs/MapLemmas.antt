@@ -16,13 +16,13 @@ use Rattle.dip_orders.specs.Conditions.{is_build}
 use Rattle.dip_orders.specs.Given.{AreGiven, IsEachGiven, orders_of_power}
 use Rattle.dip_orders.specs.Laws.{OrdersAreLawful, StandingIsInForce, UnitsHaveOneOrder}
 use Rattle.dip_orders.specs.Lawful.{IsAllowed, IsLawful, MayCome, MayLeave}
-use Rattle.dip_orders.specs.Standing.{found_order, is_in_force, is_same_unit, order_among, standing_orders, units_of}
-use Rattle.dip_orders.specs.declared.placed.Order.{Order}
-use Rattle.dip_orders.specs.declared.placed.Order.TheVariants.{Hold, Move, SupportHold, SupportMove, Convoy, Retreat, Disband, Build, Remove}
-use Rattle.dip_orders.specs.declared.placed.PlacedOrder.{PlacedOrder}
-use Rattle.dip_orders.proofs.FindLaws.{find_passes}
+use Rattle.dip_orders_placed.specs.Standing.{found_order, is_in_force, is_same_unit, order_among, standing_orders, units_of}
+use Rattle.dip_orders_placed.specs.declared.placed.Order.{Order}
+use Rattle.dip_orders_placed.specs.declared.placed.Order.TheVariants.{Hold, Move, SupportHold, SupportMove, Convoy, Retreat, Disband, Build, Remove}
+use Rattle.dip_orders_placed.specs.declared.placed.PlacedOrder.{PlacedOrder}
+use Rattle.dip_orders_placed.proofs.FindLaws.{find_passes}
 use Rattle.dip_orders.proofs.SpotLaws.{place_low, stands_at}
-use Rattle.dip_orders.proofs.StandingLaws.{same_unit}
+use Rattle.dip_orders_placed.proofs.StandingLaws.{same_unit}
 use Rattle.dip_decide.specs.Deciding.{Assignment, Step, is_broken}
 use Rattle.dip_decide.specs.Laws.{AreOrders}
 use Rattle.dip_decide.specs.Matching.{is_convoyed, situation}
@@ -33,13 +33,13 @@ use Rattle.dip_decide.specs.Steps.{steps_of}
 use Rattle.dip_turn_phases.specs.Adjusting.{after_adjustment, disorder, is_among, is_given, units_built, units_kept, units_staying}
 use Rattle.dip_turn_phases.specs.Centres.{holder, owner_by, owners_after, winner, with_owners}
 use Rattle.dip_turn.specs.Laws.{BoardsStayOfTheirMap, RetreatsAreOpen}
-use Rattle.dip_turn_moves.specs.Laws.{UnitsStandApart}
+use Rattle.dip_turn.specs.Laws.{UnitsStandApart}
 use Rattle.dip_turn_moves.specs.Moving.{after_moves, at_destination, dislodged_after, dislodged_unit, entrant, enters, has_moved, is_driven_out, leads_to, may_go, moved_board, origin, prov, standing_after, unit_after}
 use Rattle.dip_turn_phases.specs.Phases.{Sequel, after_count, follow, goes_on, has_dislodged, in_phase, last_year, needs_adjustment, new_year, sequel, year_end}
 use Rattle.dip_turn.specs.Reports.{Leaves, LeavesAdjusted, LeavesMoved, LeavesRetreated}
 use Rattle.dip_turn_phases.specs.Retreating.{after_retreat, after_retreats}
-use Rattle.dip_turn.specs.declared.report.Account.{Account}
-use Rattle.dip_turn.specs.declared.report.Account.TheVariants.{Movement as OfMovement, Retreats as OfRetreats, Adjustment as OfAdjustment}
+use Rattle.dip_turn_report.specs.declared.report.Account.{Account}
+use Rattle.dip_turn_report.specs.declared.report.Account.TheVariants.{Movement as OfMovement, Retreats as OfRetreats, Adjustment as OfAdjustment}
 use Rattle.dip_turn_phases.specs.declared.lines.Course.TheVariants.{GoesOn, Ended}
 use Rattle.dip_turn.proofs.CentreLaws.{owners_at, owners_count}
 use Rattle.dip_turn_moves.proofs.KeptLemmas.{movements_keep_units, not_true}

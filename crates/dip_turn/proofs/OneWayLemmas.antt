@@ -4,7 +4,7 @@ use Rattle.dip_map.specs.Charts.{Chart}
 use Rattle.dip_map.specs.declared.boards.Season.{Season}
 use Rattle.dip_map.specs.declared.boards.Season.TheVariants.{SpringMoves, SpringRetreats, FallMoves, FallRetreats, Winter}
 use Rattle.dip_map.specs.Boards.{Position}
-use Rattle.dip_orders.specs.declared.placed.PlacedOrder.{PlacedOrder}
+use Rattle.dip_orders_placed.specs.declared.placed.PlacedOrder.{PlacedOrder}
 use Rattle.dip_decide.specs.Decision.{Decision}
 use Rattle.dip_decide.specs.Decision.TheVariants.{Move, Path, Support}
 use Rattle.dip_decide.specs.Deciding.{Assignment}
@@ -17,10 +17,10 @@ use Rattle.dip_turn_moves.specs.Moving.{after_moves}
 use Rattle.dip_turn_moves.specs.Outcomes.{movement_lines}
 use Rattle.dip_turn_phases.specs.Phases.{Sequel, follow, sequel}
 use Rattle.dip_turn.specs.Reports.{IsMoved, IsPlayed, Leaves, LeavesAdjusted, LeavesMoved, LeavesRetreated}
-use Rattle.dip_turn.specs.declared.report.Account.{Account}
-use Rattle.dip_turn.specs.declared.report.Account.TheVariants.{Movement as OfMovement, Retreats as OfRetreats, Adjustment as OfAdjustment}
-use Rattle.dip_turn.specs.declared.report.Movement.{Movement}
-use Rattle.dip_turn.specs.declared.report.Report.{Report}
+use Rattle.dip_turn_report.specs.declared.report.Account.{Account}
+use Rattle.dip_turn_report.specs.declared.report.Account.TheVariants.{Movement as OfMovement, Retreats as OfRetreats, Adjustment as OfAdjustment}
+use Rattle.dip_turn_report.specs.declared.report.Movement.{Movement}
+use Rattle.dip_turn_report.specs.declared.report.Report.{Report}
 use Rattle.dip_turn.proofs.AscendingLemmas.{listed_alike}
 
 -- two assignments with the same values are one

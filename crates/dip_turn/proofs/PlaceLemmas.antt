@@ -15,13 +15,13 @@ use Rattle.dip_map.specs.declared.boards.Dislodged.{Dislodged}
 use Rattle.dip_map.specs.Boards.{Position}
 use Rattle.dip_orders.specs.Conditions.{army_place, may_convoy, may_travel}
 use Rattle.dip_orders.specs.Lawful.{IsAllowed, IsSite, MayCome, Reaches}
-use Rattle.dip_orders.specs.Retreats.{is_place_among, next_places, retreats_of}
-use Rattle.dip_orders.specs.declared.placed.Order.{Order}
-use Rattle.dip_orders.specs.declared.placed.Order.TheVariants.{Hold, Move, SupportHold, SupportMove, Convoy, Retreat, Disband, Build, Remove}
-use Rattle.dip_orders.specs.declared.placed.PlacedOrder.{PlacedOrder}
-use Rattle.dip_map.proofs.SpelledLaws.{centre_low}
+use Rattle.dip_orders_placed.specs.Retreats.{is_place_among, next_places, retreats_of}
+use Rattle.dip_orders_placed.specs.declared.placed.Order.{Order}
+use Rattle.dip_orders_placed.specs.declared.placed.Order.TheVariants.{Hold, Move, SupportHold, SupportMove, Convoy, Retreat, Disband, Build, Remove}
+use Rattle.dip_orders_placed.specs.declared.placed.PlacedOrder.{PlacedOrder}
+use Rattle.dip_map.proofs.BoardLaws.{centre_low}
 use Rattle.dip_orders.proofs.LawfulReadLaws.{coast_low, fleets_next, foot_coast, foot_near, home_centre, next_low}
-use Rattle.dip_orders.proofs.RetreatLaws.{retreats_exact}
+use Rattle.dip_orders_placed.proofs.RetreatLaws.{retreats_exact}
 use Rattle.dip_orders.proofs.SpotLaws.{shape_of}
 use Rattle.dip_turn_moves.specs.Moving.{leads_to}
 

@@ -8,13 +8,13 @@ use Rattle.dip_names.specs.declared.names.Unit.{Unit as AUnit}
 use Rattle.dip_map.specs.declared.boards.Dislodged.{Dislodged}
 use Rattle.dip_orders.specs.Given.{orders_of_power}
 use Rattle.dip_orders.specs.Laws.{IsGiven, NoneRetreatsToItsAttacker, RetreatsAreToVacantProvinces}
-use Rattle.dip_orders.specs.Standing.{is_same_unit}
-use Rattle.dip_orders.specs.declared.placed.Order.{Order}
-use Rattle.dip_orders.specs.declared.placed.Order.TheVariants.{Hold, Move, SupportHold, SupportMove, Convoy, Retreat, Disband, Build, Remove}
-use Rattle.dip_orders.specs.declared.placed.PlacedOrder.{PlacedOrder}
-use Rattle.dip_orders.proofs.FindLaws.{find_passes}
-use Rattle.dip_orders.proofs.KeptLaws.{count_cons}
-use Rattle.dip_orders.proofs.StandingLaws.{same_unit}
+use Rattle.dip_orders_placed.specs.Standing.{is_same_unit}
+use Rattle.dip_orders_placed.specs.declared.placed.Order.{Order}
+use Rattle.dip_orders_placed.specs.declared.placed.Order.TheVariants.{Hold, Move, SupportHold, SupportMove, Convoy, Retreat, Disband, Build, Remove}
+use Rattle.dip_orders_placed.specs.declared.placed.PlacedOrder.{PlacedOrder}
+use Rattle.dip_orders_placed.proofs.FindLaws.{find_passes}
+use Rattle.dip_orders_placed.proofs.KeptLaws.{count_cons}
+use Rattle.dip_orders_placed.proofs.StandingLaws.{same_unit}
 use Rattle.dip_turn.specs.Laws.{RetreatsAreOpen, RetreatsMeetNowhere}
 use Rattle.dip_turn_phases.specs.Retreating.{after_retreat, at_refuge, found_retreat, goal, is_for_dislodged, is_in, is_sought_by_one, refuge}
 

@@ -6,9 +6,9 @@ use Rattle.std.specs.List.{cons_option, filter_map, list_any}
 use Rattle.dip_map.specs.Charts.{are_units_single}
 use Rattle.dip_names.specs.declared.names.Unit.{Unit as AUnit}
 use Rattle.dip_orders.specs.Given.{orders_of_power}
-use Rattle.dip_orders.specs.Standing.{units_of}
-use Rattle.dip_orders.specs.declared.placed.PlacedOrder.{PlacedOrder}
-use Rattle.dip_orders.proofs.StandingLaws.{element_cases, made_among}
+use Rattle.dip_orders_placed.specs.Standing.{units_of}
+use Rattle.dip_orders_placed.specs.declared.placed.PlacedOrder.{PlacedOrder}
+use Rattle.dip_orders_placed.proofs.StandingLaws.{element_cases, made_among}
 use Rattle.dip_decide.specs.Matching.{order_at}
 use Rattle.dip_turn_moves.proofs.KeptLemmas.{kept_in}
 

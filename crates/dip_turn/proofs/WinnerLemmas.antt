@@ -3,7 +3,7 @@ use Rattle.std.proofs.Common.{◌≡◌, ◌≢◌, ◌⊎◌, inl, inr, ℕ, �
 use Rattle.std.proofs.lemmas.Bool.{cases_Bool, eqb-true, eqb-false, false≢true, ltb-true}
 use Rattle.dip_map.specs.Charts.{Chart, Province, no_province, is_centre}
 use Rattle.dip_map.specs.Boards.{Position, is_power, owner}
-use Rattle.dip_orders.proofs.KeptLaws.{count_cons}
+use Rattle.dip_orders_placed.proofs.KeptLaws.{count_cons}
 use Rattle.dip_turn_phases.specs.Centres.{has_won}
 use Rattle.dip_turn.specs.Laws.{IsTaken, OnlyCentresAreOwned, WinnersAreOne}
 use Rattle.dip_turn.proofs.CentreLaws.{played_centres}

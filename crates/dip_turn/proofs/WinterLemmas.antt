@@ -10,26 +10,26 @@ use Rattle.dip_map.specs.Charts.{Chart, IsMap, are_units_single, is_unit, may_st
 use Rattle.dip_map.specs.declared.boards.Season.{Season}
 use Rattle.dip_map.specs.declared.boards.Season.TheVariants.{SpringMoves, Winter}
 use Rattle.dip_map.specs.Boards.{IsOf, Position, centres_owned, units_counted}
-use Rattle.dip_orders.specs.Allowances.{builds_due, removals_due, vacant_homes}
+use Rattle.dip_orders_placed.specs.Allowances.{builds_due, removals_due, vacant_homes}
 use Rattle.dip_orders.specs.Conditions.{builds_elsewhere, is_build, is_remove, removals_elsewhere}
 use Rattle.dip_orders.specs.Given.{AreGiven, orders_of_power}
 use Rattle.dip_orders.specs.Laws.{OrdersAreLawful}
 use Rattle.dip_orders.specs.Lawful.{IsAllowed, MayGo}
-use Rattle.dip_orders.specs.Standing.{is_same_unit, units_of}
-use Rattle.dip_orders.specs.declared.placed.Order.{Order}
-use Rattle.dip_orders.specs.declared.placed.Order.TheVariants.{Hold, Move, SupportHold, SupportMove, Convoy, Retreat, Disband, Build, Remove}
-use Rattle.dip_orders.specs.declared.placed.PlacedOrder.{PlacedOrder}
-use Rattle.dip_orders.proofs.KeptLaws.{count_cons}
+use Rattle.dip_orders_placed.specs.Standing.{is_same_unit, units_of}
+use Rattle.dip_orders_placed.specs.declared.placed.Order.{Order}
+use Rattle.dip_orders_placed.specs.declared.placed.Order.TheVariants.{Hold, Move, SupportHold, SupportMove, Convoy, Retreat, Disband, Build, Remove}
+use Rattle.dip_orders_placed.specs.declared.placed.PlacedOrder.{PlacedOrder}
+use Rattle.dip_orders_placed.proofs.KeptLaws.{count_cons}
 use Rattle.dip_orders.proofs.LawfulReadLaws.{any_at}
-use Rattle.dip_orders.proofs.StandingLaws.{same_unit, unit_itself, made_among}
+use Rattle.dip_orders_placed.proofs.StandingLaws.{same_unit, unit_itself, made_among}
 use Rattle.dip_turn_phases.specs.Adjusting.{after_adjustment, builds_given, disorder, disorder_of, is_among, is_given, removals_given, removals_owed, units_built, units_kept, units_of_power, units_staying}
 use Rattle.dip_turn.specs.Laws.{BuildsStand, IsEvened, WintersEvenUnits}
 use Rattle.dip_turn_phases.specs.Phases.{Sequel, follow, has_dislodged, in_phase, last_year, new_year, sequel}
 use Rattle.dip_turn.specs.Reports.{IsPlayed, Leaves, LeavesAdjusted}
-use Rattle.dip_turn.specs.declared.report.Account.{Account}
-use Rattle.dip_turn.specs.declared.report.Account.TheVariants.{Movement as OfMovement, Retreats as OfRetreats, Adjustment as OfAdjustment}
+use Rattle.dip_turn_report.specs.declared.report.Account.{Account}
+use Rattle.dip_turn_report.specs.declared.report.Account.TheVariants.{Movement as OfMovement, Retreats as OfRetreats, Adjustment as OfAdjustment}
 use Rattle.dip_turn_phases.specs.declared.lines.Course.TheVariants.{GoesOn, Ended}
-use Rattle.dip_turn.specs.declared.report.Report.{Report}
+use Rattle.dip_turn_report.specs.declared.report.Report.{Report}
 use Rattle.dip_turn.proofs.CountLemmas.{count_append, count_kept, count_map, fewer, flat_among, flat_from, number_among, kept_alike, kept_in_turn, one_if, some_or_none}
 use Rattle.dip_turn.proofs.DisorderCounts.{goes_among, stays_count}
 use Rattle.dip_turn_moves.proofs.KeptLemmas.{kept_in}

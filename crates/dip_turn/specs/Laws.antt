@@ -9,20 +9,35 @@ use Rattle.dip_map.specs.declared.boards.Season.TheVariants.{SpringMoves, Spring
 use Rattle.dip_map.specs.Boards.{Position, IsOf, centres_owned, owner, season_number, units_counted}
 use Rattle.dip_orders.specs.Given.{AreGiven, IsEachGiven}
 use Rattle.dip_orders.specs.Laws.{IsEmpty}
-use Rattle.dip_orders.specs.declared.placed.Order.TheVariants.{Build}
-use Rattle.dip_orders.specs.declared.placed.PlacedOrder.{PlacedOrder}
+use Rattle.dip_orders_placed.specs.declared.placed.Order.TheVariants.{Build}
+use Rattle.dip_orders_placed.specs.declared.placed.PlacedOrder.{PlacedOrder}
+use Rattle.dip_decide.specs.Deciding.{Assignment}
+use Rattle.dip_decide.specs.Decision.{Decision}
+use Rattle.dip_decide.specs.Laws.{AreOrders}
+use Rattle.dip_decide.specs.Matching.{order_at, situation}
+use Rattle.dip_decide.specs.Movement.{Satisfies}
 use Rattle.dip_decide.specs.Resolution.{Resolution}
+use Rattle.dip_turn_moves.specs.Moving.{is_driven_out, prov, unit_after}
 use Rattle.dip_orders.specs.Conditions.{is_retreat}
 use Rattle.dip_turn_phases.specs.Adjusting.{after_adjustment, builds_given, disorder, is_among, is_given, units_built}
 use Rattle.dip_turn_phases.specs.Centres.{has_won, holder}
 use Rattle.dip_turn_phases.specs.Phases.{has_dislodged, last_year}
 use Rattle.dip_turn.specs.Reports.{IsPlayed}
 use Rattle.dip_turn_phases.specs.Retreating.{after_retreat, after_retreats}
-use Rattle.dip_turn.specs.declared.report.Account.{Account}
-use Rattle.dip_turn.specs.declared.report.Account.TheVariants.{Movement as OfMovement, Retreats as OfRetreats, Adjustment as OfAdjustment}
+use Rattle.dip_turn_report.specs.declared.report.Account.{Account}
+use Rattle.dip_turn_report.specs.declared.report.Account.TheVariants.{Movement as OfMovement, Retreats as OfRetreats, Adjustment as OfAdjustment}
 use Rattle.dip_turn_phases.specs.declared.lines.Course.{Course}
 use Rattle.dip_turn_phases.specs.declared.lines.Course.TheVariants.{GoesOn, Won, Ended}
-use Rattle.dip_turn.specs.declared.report.Report.{Report}
+use Rattle.dip_turn_report.specs.declared.report.Report.{Report}
+
+-- after a movement no two units stand in one province: two that aren't dislodged and stand in one came from one
+abbrev pub UnitsStandApart : Type 0
+UnitsStandApart =
+    (m : Chart) (b : Position) (orders : List PlacedOrder) (broken : Decision → Bool) (a : Assignment) (o w : PlacedOrder)
+    → AreOrders m b orders → Satisfies (situation m orders) broken a
+    → order_at orders (prov o) ≡ Some o → order_at orders (prov w) ≡ Some w
+    → is_driven_out a orders o ≡ false → is_driven_out a orders w ≡ false
+    → (unit_after a o).place.prov ≡ (unit_after a w).place.prov → prov o ≡ prov w
 
 -- the movement of Fall and its retreats
 abbrev pub is_fall : Season → Bool

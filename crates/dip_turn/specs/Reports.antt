@@ -4,8 +4,8 @@ use Rattle.dip_map.specs.Charts.{Chart}
 use Rattle.dip_map.specs.declared.boards.Season.{Season}
 use Rattle.dip_map.specs.declared.boards.Season.TheVariants.{SpringMoves, SpringRetreats, FallMoves, FallRetreats, Winter}
 use Rattle.dip_map.specs.Boards.{Position}
-use Rattle.dip_orders.specs.Standing.{standing_orders}
-use Rattle.dip_orders.specs.declared.placed.PlacedOrder.{PlacedOrder}
+use Rattle.dip_orders_placed.specs.Standing.{standing_orders}
+use Rattle.dip_orders_placed.specs.declared.placed.PlacedOrder.{PlacedOrder}
 use Rattle.dip_decide.specs.Decision.{Decision}
 use Rattle.dip_decide.specs.Deciding.{is_broken}
 use Rattle.dip_decide.specs.Meaning.{meant_on, situation_on}
@@ -18,11 +18,11 @@ use Rattle.dip_turn_moves.specs.Moving.{after_moves}
 use Rattle.dip_turn_moves.specs.Outcomes.{movement_lines}
 use Rattle.dip_turn_phases.specs.Phases.{sequel, follow}
 use Rattle.dip_turn_phases.specs.Retreating.{after_retreats, retreat_lines}
-use Rattle.dip_turn.specs.declared.report.Account.{Account}
-use Rattle.dip_turn.specs.declared.report.Account.TheVariants.{Movement as OfMovement, Retreats as OfRetreats, Adjustment as OfAdjustment}
-use Rattle.dip_turn.specs.declared.report.Adjustment.{Adjustment}
-use Rattle.dip_turn.specs.declared.report.Movement.{Movement}
-use Rattle.dip_turn.specs.declared.report.Report.{Report}
+use Rattle.dip_turn_report.specs.declared.report.Account.{Account}
+use Rattle.dip_turn_report.specs.declared.report.Account.TheVariants.{Movement as OfMovement, Retreats as OfRetreats, Adjustment as OfAdjustment}
+use Rattle.dip_turn_report.specs.declared.report.Adjustment.{Adjustment}
+use Rattle.dip_turn_report.specs.declared.report.Movement.{Movement}
+use Rattle.dip_turn_report.specs.declared.report.Report.{Report}
 
 -- a movement of the orders that stand, one for each unit, as they are meant: its values satisfy the decision equations but for the paths that are named as
 -- broken, steps explain them and break these paths, and whatever steps explain the same orders come to the same; the lists are in order,

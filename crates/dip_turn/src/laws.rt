@@ -1,12 +1,21 @@
 //! Laws of phases, each the contract of a function that does nothing.
-ghost use Rattle.dip_turn.specs.Laws.{BoardsStayOfTheirMap, BuildsStand, CentresChangeInFall, OnlyCentresAreOwned, OnlyRetreatsHaveDislodged, PhasesFollow, PhasesHaveOneResult, PhasesKeepIntent, RetreatsAreOpen, RetreatsLoseNobodyElse, RetreatsMeetNowhere, WinnersAreOne, WinnersOwnMore, WintersAddBuildsAlone, WintersEvenUnits, WintersRemoveAlone};
+ghost use Rattle.dip_turn.specs.Laws.{BoardsStayOfTheirMap, BuildsStand, CentresChangeInFall, OnlyCentresAreOwned, OnlyRetreatsHaveDislodged, PhasesFollow, PhasesHaveOneResult, PhasesKeepIntent, RetreatsAreOpen, RetreatsLoseNobodyElse, RetreatsMeetNowhere, UnitsStandApart, WinnersAreOne, WinnersOwnMore, WintersAddBuildsAlone, WintersEvenUnits, WintersRemoveAlone};
 
-use dip_decide::{explained_is_lawful, orders_are_meant};
+use dip_decide::{
+    boards_are_situations, equations_are_lawful, explained_is_lawful, orders_are_meant,
+};
 use dip_orders::{
     each_unit_has_one_order, none_retreats_to_its_attacker, orders_are_lawful,
     retreats_and_builds_are_to_vacant_provinces,
 };
-use dip_turn_moves::units_stand_apart;
+
+/// After a movement no two units stand in one province: two that aren't dislodged and stand in one are the same.
+pub fn units_stand_apart()
+    ensures { UnitsStandApart }
+{
+    boards_are_situations();
+    equations_are_lawful();
+}
 
 /// Nobody is lost or doubled: after the retreats each unit stood before or retreated, and after a Winter each stood before or was
 /// built, and each that stood stands or was removed.

@@ -3,17 +3,16 @@
 
 mod laws;
 mod playing;
-mod report;
 
 pub use dip_orders::{allowance, retreats};
-pub use dip_turn_moves::{Fate, MovementLine, Outcome};
-pub use dip_turn_phases::{
-    CentreLine, Course, RetreatLine, Waiver, distance_home, first_to_go, refuge,
+pub use dip_turn_phases::{distance_home, first_to_go, refuge};
+pub use dip_turn_report::{
+    Account, Adjustment, CentreLine, Course, Fate, Movement, MovementLine, Outcome, Report,
+    RetreatLine, Waiver,
 };
 pub use laws::{
     boards_stay_of_their_map, centres_change_in_fall, only_retreats_have_dislodged, phases_follow,
     phases_have_one_result, phases_keep_the_intent, retreats_are_open, units_are_kept,
-    winners_own_more, winters_even_units,
+    units_stand_apart, winners_own_more, winters_even_units,
 };
 pub use playing::advance;
-pub use report::{Account, Adjustment, Movement, Report};

@@ -4,7 +4,6 @@ ghost use Rattle.dip_map.specs.Boards.{IsOf};
 ghost use Rattle.dip_turn_phases.specs.Phases as p;
 ghost use Rattle.dip_turn.specs.Reports.{IsMoved, IsAdjusted, LeavesMoved, LeavesRetreated, LeavesAdjusted, Leaves, IsPlayed};
 
-use crate::report::{Account, Adjustment, Movement, Report};
 use dip_decide::{meant, resolve};
 use dip_map::{Board, Map, Season};
 use dip_orders::{Orders, PlacedOrder, each_unit_has_one_order};
@@ -13,6 +12,7 @@ use dip_turn_phases::{
     after_adjustment, after_retreats, centre_lines, follow, retreat_lines, units_built,
     units_given, units_in_disorder, waivers,
 };
+use dip_turn_report::{Account, Adjustment, Movement, Report};
 use std::alloc::{AllocError, Global};
 
 /// The board that a movement leaves, and what is told of it.

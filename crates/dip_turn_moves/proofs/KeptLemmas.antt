@@ -9,8 +9,8 @@ use Rattle.std.proofs.lemmas.List.Filters.{length-filter_both}
 use Rattle.dip_names.specs.declared.names.Unit.{Unit as AUnit}
 use Rattle.dip_map.specs.Charts.{Chart}
 use Rattle.dip_map.specs.declared.boards.Dislodged.{Dislodged}
-use Rattle.dip_orders.specs.declared.placed.PlacedOrder.{PlacedOrder}
-use Rattle.dip_decide.specs.Deciding.{Assignment}
+use Rattle.dip_orders_placed.specs.declared.placed.PlacedOrder.{PlacedOrder}
+use Rattle.dip_decide_rules.specs.Deciding.{Assignment}
 use Rattle.dip_turn_moves.specs.Moving.{dislodged_after, dislodged_unit, is_driven_out, standing_after, unit_after}
 use Rattle.dip_turn_moves.specs.Laws.{MovementsKeepUnits}
 

@@ -1,7 +1,6 @@
 pub mod ListLemmas
 pub mod OrderLemmas
 pub mod MovingLemmas
-pub mod ApartLemmas
 pub mod ToldLemmas
 pub mod KeptLemmas
 pub mod StandoffLemmas

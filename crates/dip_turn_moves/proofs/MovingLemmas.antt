@@ -2,9 +2,9 @@
 use Rattle.std.proofs.Common.{◌≡◌, ℕ, ◌+◌, Bool, true, false, cond, not, refl, arith}
 use Rattle.std.specs.Prelude.{◌&&◌, ◌||◌, nat_lt}
 use Rattle.std.proofs.lemmas.Bool.Decides.{nat_tests}
-use Rattle.dip_decide.specs.Deciding.{Assignment}
-use Rattle.dip_decide.specs.Decision.TheVariants.{Move}
-use Rattle.dip_decide.specs.Movement.{Situation, has_path, head_to_head, prevent, support}
+use Rattle.dip_decide_rules.specs.Deciding.{Assignment}
+use Rattle.dip_decide_rules.specs.declared.decisions.Decision.TheVariants.{Move}
+use Rattle.dip_decide_rules.specs.Movement.{Situation, has_path, head_to_head, prevent, support}
 
 positive : (a b c : Bool) (n : ℕ) → nat_lt 0 (cond (not a || (b && c)) 0 (1 + n)) ≡ (a && not (b && c))
 positive true true true n = refl

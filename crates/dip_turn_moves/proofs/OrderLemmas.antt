@@ -5,9 +5,9 @@ use Rattle.std.specs.List.{list_any}
 use Rattle.dip_names.specs.declared.names.Kind.TheVariants.{Fleet}
 use Rattle.dip_map.specs.Charts.{Chart, province}
 use Rattle.dip_names.specs.Kinds.{is_kind, is_sea}
-use Rattle.dip_orders.specs.declared.placed.PlacedOrder.{PlacedOrder}
-use Rattle.dip_decide.specs.Matching.{is_matched, is_carried, order_at, provinces_of, situation, supports_in, convoys_in}
-use Rattle.dip_decide.specs.Movement.{is_support}
+use Rattle.dip_orders_placed.specs.declared.placed.PlacedOrder.{PlacedOrder}
+use Rattle.dip_decide_rules.specs.Matching.{is_matched, is_carried, order_at, provinces_of, situation, supports_in, convoys_in}
+use Rattle.dip_decide_rules.specs.Movement.{is_support}
 use Rattle.dip_turn_moves.specs.Outcomes.{is_convoy}
 
 any_province : (f : ℕ → Bool) (orders : List PlacedOrder) → list_any (λ o. f o.unit.place.prov) orders ≡ list_any f (provinces_of orders)

@@ -3,10 +3,10 @@ use Rattle.std.proofs.Common.{◌≡◌, Bool, true, false, cond, not, List, [],
 use Rattle.std.specs.Prelude.{◌&&◌, ◌||◌, is_some}
 use Rattle.std.specs.List.{list_any}
 use Rattle.std.proofs.lemmas.Bool.{false≢true}
-use Rattle.dip_orders.specs.declared.placed.PlacedOrder.{PlacedOrder}
-use Rattle.dip_decide.specs.Decision.TheVariants.{Move as Moves}
-use Rattle.dip_decide.specs.Matching.{destination, is_convoyed, situation}
-use Rattle.dip_decide.specs.Movement.{head_to_head, has_path, is_at}
+use Rattle.dip_orders_placed.specs.declared.placed.PlacedOrder.{PlacedOrder}
+use Rattle.dip_decide_rules.specs.declared.decisions.Decision.TheVariants.{Move as Moves}
+use Rattle.dip_decide_rules.specs.Matching.{destination, is_convoyed, situation}
+use Rattle.dip_decide_rules.specs.Movement.{head_to_head, has_path, is_at}
 use Rattle.dip_turn_moves.specs.Laws.{ConvoysCloseNoOrigin, DislodgedWhereEntered, LosersLeaveNoStandoff}
 use Rattle.dip_turn_moves.specs.Moving.{enters, has_moved, origin, prov}
 use Rattle.dip_turn_moves.proofs.MovingLemmas.{prevents}

@@ -3,23 +3,12 @@ use Rattle.std.specs.Prelude.{◌≡◌, ℕ, ◌<◌, ◌+◌, Bool, true, fals
 use Rattle.std.specs.List.{list_any}
 use Rattle.dip_map.specs.Charts.{Chart}
 use Rattle.dip_map.specs.Boards.{Position, are_ascending, is_held}
-use Rattle.dip_orders.specs.declared.placed.PlacedOrder.{PlacedOrder}
-use Rattle.dip_decide.specs.Decision.{Decision}
-use Rattle.dip_decide.specs.Deciding.{Assignment}
-use Rattle.dip_decide.specs.Laws.{AreOrders}
-use Rattle.dip_decide.specs.Decision.TheVariants.{Move as Moves}
-use Rattle.dip_decide.specs.Matching.{is_convoyed, order_at, situation}
-use Rattle.dip_decide.specs.Movement.{Satisfies, head_to_head}
+use Rattle.dip_orders_placed.specs.declared.placed.PlacedOrder.{PlacedOrder}
+use Rattle.dip_decide_rules.specs.Deciding.{Assignment}
+use Rattle.dip_decide_rules.specs.declared.decisions.Decision.TheVariants.{Move as Moves}
+use Rattle.dip_decide_rules.specs.Matching.{is_convoyed, situation}
+use Rattle.dip_decide_rules.specs.Movement.{head_to_head}
 use Rattle.dip_turn_moves.specs.Moving.{after_moves, contends, dislodged_after, dislodged_unit, entrant, enters, has_moved, is_driven_out, prov, standing_after, unit_after}
-
--- after a movement no two units stand in one province: two that aren't dislodged and stand in one came from one
-abbrev pub UnitsStandApart : Type 0
-UnitsStandApart =
-    (m : Chart) (b : Position) (orders : List PlacedOrder) (broken : Decision → Bool) (a : Assignment) (o w : PlacedOrder)
-    → AreOrders m b orders → Satisfies (situation m orders) broken a
-    → order_at orders (prov o) ≡ Some o → order_at orders (prov w) ≡ Some w
-    → is_driven_out a orders o ≡ false → is_driven_out a orders w ≡ false
-    → (unit_after a o).place.prov ≡ (unit_after a w).place.prov → prov o ≡ prov w
 
 -- a movement loses and doubles nobody: each unit stands after it, in its province or at its destination, or is dislodged
 pub record MovementKeepsUnits (m : Chart) (a : Assignment) (orders : List PlacedOrder) : Type 0 where

@@ -6,14 +6,14 @@ use Rattle.dip_names.specs.declared.names.Unit.{Unit as AUnit}
 use Rattle.dip_map.specs.Charts.{Chart, provs}
 use Rattle.dip_map.specs.declared.boards.Dislodged.{Dislodged}
 use Rattle.dip_map.specs.Boards.{Position}
-use Rattle.dip_orders.specs.Retreats.{retreats_of}
-use Rattle.dip_orders.specs.declared.placed.Order.{Order}
-use Rattle.dip_orders.specs.declared.placed.Order.TheVariants.{Hold, Move, SupportHold, SupportMove, Convoy, Retreat, Disband, Build, Remove}
-use Rattle.dip_orders.specs.declared.placed.PlacedOrder.{PlacedOrder}
-use Rattle.dip_decide.specs.Decision.TheVariants.{Move as Moves}
-use Rattle.dip_decide.specs.Deciding.{Assignment}
-use Rattle.dip_decide.specs.Matching.{destination, is_convoyed, situation}
-use Rattle.dip_decide.specs.Movement.{is_at, prevent}
+use Rattle.dip_orders_placed.specs.Retreats.{retreats_of}
+use Rattle.dip_orders_placed.specs.declared.placed.Order.{Order}
+use Rattle.dip_orders_placed.specs.declared.placed.Order.TheVariants.{Hold, Move, SupportHold, SupportMove, Convoy, Retreat, Disband, Build, Remove}
+use Rattle.dip_orders_placed.specs.declared.placed.PlacedOrder.{PlacedOrder}
+use Rattle.dip_decide_rules.specs.declared.decisions.Decision.TheVariants.{Move as Moves}
+use Rattle.dip_decide_rules.specs.Deciding.{Assignment}
+use Rattle.dip_decide_rules.specs.Matching.{destination, is_convoyed, situation}
+use Rattle.dip_decide_rules.specs.Movement.{is_at, prevent}
 
 -- the province of an order's unit
 abbrev pub prov : PlacedOrder → ℕ

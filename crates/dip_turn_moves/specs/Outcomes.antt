@@ -3,14 +3,14 @@ use Rattle.std.specs.Prelude.{ℕ, Bool, List, map, not, if◌then◌else◌}
 use Rattle.std.specs.List.{list_any}
 use Rattle.dip_map.specs.Charts.{Chart}
 use Rattle.dip_map.specs.Boards.{Position}
-use Rattle.dip_orders.specs.declared.placed.Order.{Order}
-use Rattle.dip_orders.specs.declared.placed.Order.TheVariants.{Hold, Move, SupportHold, SupportMove, Convoy, Retreat, Disband, Build, Remove}
-use Rattle.dip_orders.specs.declared.placed.PlacedOrder.{PlacedOrder}
-use Rattle.dip_decide.specs.Decision.TheVariants.{Support}
-use Rattle.dip_decide.specs.Deciding.{Assignment}
-use Rattle.dip_decide.specs.Matching.{situation}
-use Rattle.dip_decide.specs.Meaning.{meant_on}
-use Rattle.dip_decide.specs.Movement.{Situation, has_path, is_support}
+use Rattle.dip_orders_placed.specs.declared.placed.Order.{Order}
+use Rattle.dip_orders_placed.specs.declared.placed.Order.TheVariants.{Hold, Move, SupportHold, SupportMove, Convoy, Retreat, Disband, Build, Remove}
+use Rattle.dip_orders_placed.specs.declared.placed.PlacedOrder.{PlacedOrder}
+use Rattle.dip_decide_rules.specs.declared.decisions.Decision.TheVariants.{Support}
+use Rattle.dip_decide_rules.specs.Deciding.{Assignment}
+use Rattle.dip_decide_rules.specs.Matching.{situation}
+use Rattle.dip_decide_rules.specs.Meaning.{meant_on}
+use Rattle.dip_decide_rules.specs.Movement.{Situation, has_path, is_support}
 use Rattle.dip_turn_moves.specs.Moving.{prov, has_moved, is_driven_out, dislodged_unit, moved_board, may_go}
 use Rattle.dip_turn_moves.specs.declared.lines.Fate.{Fate}
 use Rattle.dip_turn_moves.specs.declared.lines.Fate.TheVariants.{Stands, Dislodged, Destroyed}

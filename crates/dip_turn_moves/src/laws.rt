@@ -1,15 +1,5 @@
 //! Laws of what a movement makes of a board, each the contract of a function that does nothing.
-ghost use Rattle.dip_turn_moves.specs.Laws.{ConvoysCloseNoOrigin, DislodgedWhereEntered, LosersLeaveNoStandoff, MovementsKeepUnits, StandoffsAreLawful, UnitsStandApart};
-
-use dip_decide::{boards_are_situations, equations_are_lawful};
-
-/// After a movement no two units stand in one province: two that aren't dislodged and stand in one are the same.
-pub fn units_stand_apart()
-    ensures { UnitsStandApart }
-{
-    boards_are_situations();
-    equations_are_lawful();
-}
+ghost use Rattle.dip_turn_moves.specs.Laws.{ConvoysCloseNoOrigin, DislodgedWhereEntered, LosersLeaveNoStandoff, MovementsKeepUnits, StandoffsAreLawful};
 
 /// A unit is dislodged exactly where it stays and a successful move leads into its province; standoffs are provinces of the map,
 /// once each, where nobody stands; the loser of a fight head to head leaves none where it was to go; and an attacker by convoy

@@ -8,7 +8,7 @@ mod orders;
 mod outcomes;
 mod standoffs;
 
-pub use laws::{movements_are_told, movements_keep_units, units_stand_apart};
+pub use laws::{movements_are_told, movements_keep_units};
 pub use lines::{Fate, MovementLine, Outcome};
 pub use moving::{moved_board, without_destroyed};
 pub use outcomes::movement_lines;

@@ -1,6 +1,6 @@
 //! What is told of each order of a movement.
 
-use dip_orders::PlacedOrder;
+use dip_orders_placed::PlacedOrder;
 
 /// What became of an order in a movement.
 #[derive(Clone, Copy, PartialEq, Eq, Debug)]

@@ -1,14 +1,14 @@
 //! What a movement makes of a board.
 ghost use Rattle.std.specs.Prelude.{◌≡◌, Some, IfOk, find, filter, map, length, nat_lt, not};
-ghost use Rattle.dip_decide.specs.Results.{values_in};
+ghost use Rattle.dip_decide_rules.specs.Results.{values_in};
 ghost use Rattle.dip_turn_moves.specs.Moving as m;
 
 use crate::orders::{destination, is_at, is_convoyed, is_listed};
 use crate::standoffs::standoffs_after;
-use dip_decide::Resolution;
+use dip_decide_rules::Resolution;
 use dip_map::{Board, Dislodged, Map};
 use dip_names::{Place, Prov, Unit};
-use dip_orders::{Order, PlacedOrder, retreats};
+use dip_orders_placed::{Order, PlacedOrder, retreats};
 use std::alloc::{AllocError, Global};
 
 /// Where an order leads a unit from its place.

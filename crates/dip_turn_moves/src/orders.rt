@@ -4,13 +4,13 @@ ghost use Rattle.std.specs.List.{list_any};
 ghost use Rattle.dip_names.specs.Kinds.{is_kind, is_sea};
 ghost use Rattle.dip_map.specs.Charts.{province};
 ghost use Rattle.dip_names.specs.declared.names.Kind.TheVariants.{Fleet};
-ghost use Rattle.dip_decide.specs.Matching.{destination, target_of, order_at, is_convoyed, is_there, is_matched, is_carried, situation};
-ghost use Rattle.dip_decide.specs.Movement.{is_at, is_listed, head_to_head, is_support};
+ghost use Rattle.dip_decide_rules.specs.Matching.{destination, target_of, order_at, is_convoyed, is_there, is_matched, is_carried, situation};
+ghost use Rattle.dip_decide_rules.specs.Movement.{is_at, is_listed, head_to_head, is_support};
 ghost use Rattle.dip_turn_moves.specs.Outcomes.{is_convoy};
 
 use dip_map::Map;
 use dip_names::{Kind, Prov};
-use dip_orders::{Order, Other, PlacedOrder};
+use dip_orders_placed::{Order, Other, PlacedOrder};
 
 /// Where an order sends its unit.
 pub(crate) fn destination(order: &Order) -> Option<Prov>

@@ -1,7 +1,7 @@
 //! What became of each order of a movement, and of its unit.
 ghost use Rattle.std.specs.Prelude.{◌≡◌, IfOk};
-ghost use Rattle.dip_decide.specs.Matching.{situation};
-ghost use Rattle.dip_decide.specs.Results.{values_in};
+ghost use Rattle.dip_decide_rules.specs.Matching.{situation};
+ghost use Rattle.dip_decide_rules.specs.Results.{values_in};
 ghost use Rattle.dip_turn_moves.specs.Moving.{moved_board};
 ghost use Rattle.dip_turn_moves.specs.Outcomes as o;
 
@@ -9,9 +9,9 @@ use crate::lines::{Fate, MovementLine, Outcome};
 use crate::moving::{dislodged_unit, has_moved, is_driven_out, may_go};
 use crate::orders::{is_convoy, is_listed, is_support};
 use crate::standoffs::has_path;
-use dip_decide::Resolution;
+use dip_decide_rules::Resolution;
 use dip_map::{Board, Map};
-use dip_orders::{Order, PlacedOrder};
+use dip_orders_placed::{Order, PlacedOrder};
 use std::alloc::{AllocError, Global};
 
 /// What becomes of a move: it succeeds, has a path and fails, or has none.

@@ -1,17 +1,17 @@
 //! Standoff provinces.
 ghost use Rattle.std.specs.Prelude.{◌≡◌, ◌==◌, IfOk, nat_lt};
 ghost use Rattle.std.specs.List.{list_any};
-ghost use Rattle.dip_decide.specs.Matching.{situation};
-ghost use Rattle.dip_decide.specs.Movement.{has_path, prevent};
-ghost use Rattle.dip_decide.specs.Results.{values_in};
+ghost use Rattle.dip_decide_rules.specs.Matching.{situation};
+ghost use Rattle.dip_decide_rules.specs.Movement.{has_path, prevent};
+ghost use Rattle.dip_decide_rules.specs.Results.{values_in};
 ghost use Rattle.dip_turn_moves.specs.Moving as m;
 
 use crate::moving::has_moved;
 use crate::orders::{destination, is_at, is_convoyed_from, is_head_to_head, is_listed};
-use dip_decide::Resolution;
+use dip_decide_rules::Resolution;
 use dip_map::Map;
 use dip_names::{Prov, Unit};
-use dip_orders::PlacedOrder;
+use dip_orders_placed::PlacedOrder;
 use std::alloc::{AllocError, Global};
 
 /// Whether the move of the unit in a province goes by land, or has a path.

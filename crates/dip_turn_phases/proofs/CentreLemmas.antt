@@ -5,7 +5,7 @@ use Rattle.std.specs.List.{range_with_len, slice_index_or}
 use Rattle.std.proofs.lemmas.Bool.Decides.{nat_tests}
 use Rattle.std.proofs.lemmas.List.FromFn.{length-range_with_len}
 use Rattle.dip_map.specs.Charts.{Chart, Province, is_centre, no_province, provs}
-use Rattle.dip_orders.proofs.KeptLaws.{count_cons}
+use Rattle.dip_orders_placed.proofs.KeptLaws.{count_cons}
 use Rattle.dip_turn_phases.specs.Centres.{centres}
 
 -- more than half are owned where the others are fewer

@@ -4,10 +4,10 @@ use Rattle.std.specs.List.{list_any, filter_map}
 use Rattle.dip_names.specs.declared.names.Unit.{Unit as AUnit}
 use Rattle.dip_map.specs.Charts.{Chart, powers}
 use Rattle.dip_map.specs.Boards.{Position}
-use Rattle.dip_orders.specs.Allowances.{builds_due, removals_due}
-use Rattle.dip_orders.specs.Standing.{is_same_unit}
+use Rattle.dip_orders_placed.specs.Allowances.{builds_due, removals_due}
+use Rattle.dip_orders_placed.specs.Standing.{is_same_unit}
 use Rattle.dip_orders.specs.Conditions.{is_build, is_remove}
-use Rattle.dip_orders.specs.declared.placed.PlacedOrder.{PlacedOrder}
+use Rattle.dip_orders_placed.specs.declared.placed.PlacedOrder.{PlacedOrder}
 use Rattle.dip_turn_phases.specs.Disorder.{in_disorder}
 use Rattle.dip_turn_phases.specs.declared.lines.Waiver.{Waiver}
 

@@ -5,7 +5,7 @@ use Rattle.dip_map.specs.Charts.{Chart, powers}
 use Rattle.dip_map.specs.declared.boards.Season.{Season}
 use Rattle.dip_map.specs.declared.boards.Season.TheVariants.{SpringMoves, SpringRetreats, FallMoves, FallRetreats, Winter}
 use Rattle.dip_map.specs.Boards.{Position}
-use Rattle.dip_orders.specs.Allowances.{builds_due, removals_due}
+use Rattle.dip_orders_placed.specs.Allowances.{builds_due, removals_due}
 use Rattle.dip_turn_phases.specs.Centres.{with_owners, winner}
 use Rattle.dip_turn_phases.specs.declared.lines.Course.{Course}
 use Rattle.dip_turn_phases.specs.declared.lines.Course.TheVariants.{GoesOn, Won, Ended}

@@ -1,7 +1,7 @@
 //! What builds and removals make of a board.
 ghost use Rattle.std.specs.Prelude.{◌≡◌, ◌==◌, ◌&&◌, not, IfOk, map, filter, flat_map, count_by};
 ghost use Rattle.std.specs.List.{list_any, filter_map};
-ghost use Rattle.dip_orders.specs.Standing.{is_same_unit};
+ghost use Rattle.dip_orders_placed.specs.Standing.{is_same_unit};
 ghost use Rattle.dip_orders.specs.Conditions.{is_build, is_remove};
 ghost use Rattle.dip_turn_phases.specs.Adjusting as a;
 

@@ -1,7 +1,7 @@
 //! What the retreats make of a board.
 ghost use Rattle.std.specs.Prelude.{◌≡◌, ◌==◌, ◌&&◌, IfOk, find, count_by, map};
 ghost use Rattle.std.specs.List.{filter_map};
-ghost use Rattle.dip_orders.specs.Standing.{is_same_unit};
+ghost use Rattle.dip_orders_placed.specs.Standing.{is_same_unit};
 ghost use Rattle.dip_turn_phases.specs.Retreating as r;
 
 use crate::lines::RetreatLine;

@@ -6,7 +6,7 @@ use Rattle.dip_desk_state.specs.Rows as rows
 use Rattle.dip_desk_games.specs.ByPlace.{are_by_place}
 use Rattle.dip_orders.specs.Given.{AreGiven}
 use Rattle.dip_orders.specs.Laws.{LawfulOrdersAreRead, OrdersAreLawful, OrdersStandAlone, TextsAreReadAgain}
-use Rattle.dip_orders.specs.declared.placed.PlacedOrder.{PlacedOrder}
+use Rattle.dip_orders_placed.specs.declared.placed.PlacedOrder.{PlacedOrder}
 use Rattle.dip_check.specs.Phases.{IsJudged, IsJudgedBy}
 use Rattle.dip_check_papers.specs.Printed.{IsPrinted, orders_printed_at}
 use Rattle.dip_check_papers.specs.declared.printed.Printed.{Printed}

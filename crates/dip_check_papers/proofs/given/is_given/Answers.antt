@@ -2,7 +2,7 @@ use Rattle.std.proofs.Common.{◌≡◌, ap, sym, ◌∙◌, Ok, Err, Result, tr
 use Rattle.dip_orders.specs.Reading.{order_of}
 use Rattle.dip_orders.specs.Texts.{order_text}
 use Rattle.dip_orders.specs.declared.faults.OrderFault.{OrderFault}
-use Rattle.dip_orders.specs.declared.placed.PlacedOrder.{PlacedOrder}
+use Rattle.dip_orders_placed.specs.declared.placed.PlacedOrder.{PlacedOrder}
 use Rattle.dip_check_papers.proofs.given.is_given.Goals as goal
 
 ok_of : (x y : PlacedOrder) → ◌≡◌ {A = Result PlacedOrder OrderFault} (Ok x) (Ok y) → x ≡ y

@@ -1,5 +1,5 @@
 use Rattle.std.proofs.Common.{List, sym, subst}
-use Rattle.dip_orders.specs.declared.placed.PlacedOrder.{PlacedOrder}
+use Rattle.dip_orders_placed.specs.declared.placed.PlacedOrder.{PlacedOrder}
 use Rattle.dip_decide_rules.specs.Given.{known_of, IsAnswer}
 use Rattle.dip_decide_rules.specs.Meaning.{situation_on}
 use Rattle.dip_decide_rules.specs.Movement.{IsSituation, rule}

@@ -1,6 +1,6 @@
 use Rattle.std.proofs.Common.{◌≡◌, ◌∙◌, ap, map, sym, List}
 use Rattle.std.specs.Prelude.{Option}
-use Rattle.dip_orders.specs.declared.placed.PlacedOrder.{PlacedOrder}
+use Rattle.dip_orders_placed.specs.declared.placed.PlacedOrder.{PlacedOrder}
 use Rattle.dip_decide_table.specs.Rows.{rows_of}
 use Rattle.dip_decide_table.specs.Placed.{backings_among, carried_of, convoyed_of, entry, targets_of}
 use Rattle.dip_decide_table.proofs.TableLaws.{rows_listed, seen_law}

@@ -1,6 +1,6 @@
 use Rattle.std.proofs.Common.{◌≡◌, ap, rules, subst, ◌∙◌, map, List}
 use Rattle.dip_map.specs.Boards.{Position}
-use Rattle.dip_orders.specs.declared.placed.PlacedOrder.{PlacedOrder}
+use Rattle.dip_orders_placed.specs.declared.placed.PlacedOrder.{PlacedOrder}
 use Rattle.dip_desk_state.specs.Records.{Public}
 use Rattle.dip_desk_masters.specs.Commands.{paper_verdict}
 use Rattle.dip_desk_games.specs.Ticking.{by_power, orders_of, orders_of_seats}

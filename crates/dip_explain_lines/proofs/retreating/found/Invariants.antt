@@ -1,5 +1,5 @@
 use Rattle.std.proofs.Common.{◌≡◌, drop, find}
-use Rattle.dip_orders.specs.Standing.{is_same_unit}
+use Rattle.dip_orders_placed.specs.Standing.{is_same_unit}
 use Rattle.dip_explain_lines.proofs.retreating.found.Given as goal
 
 abbrev pub invariant-loop-dislodged : goal.invariant-loop-dislodged

@@ -1,13 +1,11 @@
-use Rattle.std.proofs.Common.{List, Option, map, subst, sym, ℕ}
-use Rattle.std.specs.Prelude.{option_map}
+use Rattle.std.proofs.Common.{map}
 use Rattle.std.proofs.lemmas.Option.{IfSome_then}
 use Rattle.std.proofs.lemmas.Result.{IfErr-weaker}
 use Rattle.sqlite.specs.Files.{over_files}
 use Rattle.sqlite.specs.WalFiles.{image_at}
 use Rattle.dip_map.specs.declared.standard.TheConstants.{STANDARD}
-use Rattle.dip_judge_runs.specs.MapFiles.{IsMapOf}
 use Rattle.dip_judge_commands.specs.Files.{StopsStore}
-use Rattle.dip_judge_commands.proofs.FileLemmas.{failed_as, if_asked}
+use Rattle.dip_judge_commands.proofs.FileLemmas.{failed_as, if_asked, map_named_so}
 use Rattle.dip_judge_commands.proofs.asked.do_as_asked.Goals as goal
 
 pub returns-in-Ok-read_map-clause-tells : goal.returns-in-Ok-read_map-clause-tells
@@ -19,8 +17,7 @@ returns-in-Ok-read_map-clause-tells g c =
       c.text_said.result.now,
       c.in-Ok.ensures.given,
       c.in-Ok.ensures.checks,
-      subst (λ (path : Option (List ℕ)). IsMapOf STANDARD.now path c.text_said.result.now c.in-Ok-read_map.map) c.map.ensures
-          (subst (λ (text : List ℕ). IsMapOf STANDARD.now (option_map (λ p. p.now) c.map.result) text c.in-Ok-read_map.map) (sym c.text_said.ensures) c.in-Ok-read_map.ensures.map),
+      map_named_so STANDARD.now _ _ _ _ _ c.map.ensures c.text_said.ensures c.in-Ok-read_map.ensures.map,
       tells,
     ))
 
@@ -33,8 +30,7 @@ returns-in-Ok-read_map-clause-lasts g c =
       c.text_said.result.now,
       c.in-Ok.ensures.given,
       c.in-Ok.ensures.checks,
-      subst (λ (path : Option (List ℕ)). IsMapOf STANDARD.now path c.text_said.result.now c.in-Ok-read_map.map) c.map.ensures
-          (subst (λ (text : List ℕ). IsMapOf STANDARD.now (option_map (λ p. p.now) c.map.result) text c.in-Ok-read_map.map) (sym c.text_said.ensures) c.in-Ok-read_map.ensures.map),
+      map_named_so STANDARD.now _ _ _ _ _ c.map.ensures c.text_said.ensures c.in-Ok-read_map.ensures.map,
       lasts,
     ))
 
@@ -51,8 +47,7 @@ returns-in-Ok-read_map-clause-stops g c =
         c.in-Ok.ensures.checks,
         (
           c.text_said.result.now,
-          subst (λ (path : Option (List ℕ)). IsMapOf STANDARD.now path c.text_said.result.now c.in-Ok-read_map.map) c.map.ensures
-              (subst (λ (text : List ℕ). IsMapOf STANDARD.now (option_map (λ p. p.now) c.map.result) text c.in-Ok-read_map.map) (sym c.text_said.ensures) c.in-Ok-read_map.ensures.map),
+          map_named_so STANDARD.now _ _ _ _ _ c.map.ensures c.text_said.ensures c.in-Ok-read_map.ensures.map,
         ),
       ),
       stops,
@@ -71,8 +66,7 @@ returns-in-Ok-read_map-clause-failed g c =
         c.in-Ok.ensures.checks,
         (
           c.text_said.result.now,
-          subst (λ (path : Option (List ℕ)). IsMapOf STANDARD.now path c.text_said.result.now c.in-Ok-read_map.map) c.map.ensures
-              (subst (λ (text : List ℕ). IsMapOf STANDARD.now (option_map (λ p. p.now) c.map.result) text c.in-Ok-read_map.map) (sym c.text_said.ensures) c.in-Ok-read_map.ensures.map),
+          map_named_so STANDARD.now _ _ _ _ _ c.map.ensures c.text_said.ensures c.in-Ok-read_map.ensures.map,
         ),
       ),
       fails,

@@ -1,4 +1,4 @@
-use Rattle.dip_orders.proofs.StandingLaws.{standing_units, standing_in_force, standing_kept}
+use Rattle.dip_orders_placed.proofs.StandingLaws.{standing_units, standing_in_force, standing_kept}
 use Rattle.dip_orders.proofs.laws.each_unit_has_one_order.Goals as goal
 
 pub returns-clause-units : goal.returns-clause-units

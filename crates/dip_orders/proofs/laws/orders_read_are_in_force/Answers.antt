@@ -1,4 +1,4 @@
-use Rattle.dip_orders.proofs.StandingLaws.{lawful_in_force}
+use Rattle.dip_orders.proofs.ForceLaws.{lawful_in_force}
 use Rattle.dip_orders.proofs.laws.orders_read_are_in_force.Goals as goal
 
 pub returns : goal.returns

@@ -1,6 +1,6 @@
 use Rattle.std.proofs.Common.{◌≡◌, List, ap, ◌∙◌}
 use Rattle.dip_map.specs.Boards.{Position}
-use Rattle.dip_orders.specs.declared.placed.PlacedOrder.{PlacedOrder}
+use Rattle.dip_orders_placed.specs.declared.placed.PlacedOrder.{PlacedOrder}
 use Rattle.dip_decide.specs.Meaning.{meant_on}
 use Rattle.dip_decide.specs.Results.{values_in}
 use Rattle.dip_turn_moves.specs.Moving.{moved_board, without_destroyed}

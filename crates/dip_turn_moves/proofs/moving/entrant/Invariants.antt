@@ -1,5 +1,5 @@
 use Rattle.std.proofs.Common.{◌≡◌, drop, find}
-use Rattle.dip_decide.specs.Results.{values_in}
+use Rattle.dip_decide_rules.specs.Results.{values_in}
 use Rattle.dip_turn_moves.specs.Moving.{enters}
 use Rattle.dip_turn_moves.proofs.moving.entrant.Given as goal
 

@@ -1,5 +1,5 @@
 use Rattle.std.proofs.Common.{arith}
-use Rattle.dip_decide.specs.Results.{values_in}
+use Rattle.dip_decide_rules.specs.Results.{values_in}
 use Rattle.dip_turn_moves.specs.Outcomes.{line_on}
 use Rattle.dip_turn_moves.proofs.ListLemmas.{map_step}
 use Rattle.dip_turn_moves.proofs.outcomes.movement_lines.Goals as goal

@@ -1,6 +1,6 @@
 use Rattle.std.proofs.Common.{◌≡◌, ◌++◌, filter}
 use Rattle.dip_map.specs.Charts.{provs}
-use Rattle.dip_decide.specs.Results.{values_in}
+use Rattle.dip_decide_rules.specs.Results.{values_in}
 use Rattle.dip_turn_moves.specs.Moving.{is_standoff_after}
 use Rattle.dip_turn_moves.proofs.standoffs.standoffs_after.Given as goal
 

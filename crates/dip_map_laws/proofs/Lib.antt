@@ -1,0 +1,5 @@
+mod CheckLaws
+mod FileLaws
+mod SpellingLaws
+mod TellingLaws
+mod SpelledLaws

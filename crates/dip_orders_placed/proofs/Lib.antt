@@ -1,0 +1,5 @@
+pub mod KeptLaws
+pub mod FindLaws
+pub mod RetreatLaws
+pub mod AllowanceLaws
+pub mod StandingLaws

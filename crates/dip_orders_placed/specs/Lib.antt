@@ -1,0 +1,3 @@
+pub mod Retreats
+pub mod Allowances
+pub mod Standing

@@ -94,7 +94,7 @@ def replies_to(name):
 
 def standard_map():
     """The text of the standard map, as its source has it."""
-    source = read("crates/dip_map/src/standard.rt")
+    source = read("crates/dip_map_text/src/standard.rt")
     return source[source.index('"') + 1 : source.rindex('"')].replace('\\"', '"')
 
 

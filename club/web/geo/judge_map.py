@@ -3,7 +3,7 @@ import os
 import re
 
 FILE = os.path.join(os.path.dirname(os.path.abspath(__file__)),
-    "../../../crates/dip_map/src/standard.rt")
+    "../../../crates/dip_map_text/src/standard.rt")
 
 
 def read_map(path=FILE):

@@ -13,7 +13,8 @@ use Rattle.dip_map.specs.Charts.{Chart, IsMap, is_centre, is_unit, power_of, pow
 use Rattle.dip_desk_games.specs.Drawing.{public_drawn, survives}
 use Rattle.dip_desk_state.specs.Records.{For, Public}
 use Rattle.dip_desk_state.specs.Writable.{IsVoteOf}
-use Rattle.dip_reports.specs.Texts.{board_lines, draw_paper, game_line, paper_title, phase_text, status_text, terms_text}
+use Rattle.dip_reports.specs.Texts.{board_lines, draw_paper, game_line, paper_title, phase_text, terms_text}
+use Rattle.dip_desk_state.specs.Texts.{status_text}
 use Rattle.dip_check_papers.specs.Parts.{words_in}
 use Rattle.dip_check_papers.specs.Shared.{draw_head, is_named, is_sharer, sharers}
 use Rattle.dip_check_papers.proofs.WordLemmas.{lacks, lacks_by}

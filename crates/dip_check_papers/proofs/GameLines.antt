@@ -12,7 +12,8 @@ use Rattle.dip_map.specs.declared.boards.Phase.{Phase}
 use Rattle.dip_map.specs.declared.boards.Season.{Season}
 use Rattle.dip_map.specs.declared.boards.Season.TheVariants.{SpringMoves, SpringRetreats, FallMoves, FallRetreats, Winter}
 use Rattle.dip_desk_state.specs.Records.{Public, Running}
-use Rattle.dip_reports.specs.Texts.{board_lines, game_line, intent_text, opening_paper, paper_end, phase_text, status_text, terms_text, yes_or_no}
+use Rattle.dip_reports.specs.Texts.{board_lines, game_line, intent_text, opening_paper, paper_end, phase_text, terms_text, yes_or_no}
+use Rattle.dip_desk_state.specs.Texts.{status_text}
 use Rattle.dip_check_papers.specs.Parts.{game_line_in, is_yes, lines_in, word_after, words_in}
 use Rattle.dip_check_papers.proofs.WordLemmas.{lacks, lacks_both, lacks_by, last_part, number_lacks, other_than_number, other_word, part_again}
 

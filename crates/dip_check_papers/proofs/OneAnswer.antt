@@ -20,7 +20,8 @@ use Rattle.dip_turn_report.specs.declared.report.Report.{Report}
 use Rattle.dip_turn_papers.specs.Papers.{paper_text}
 use Rattle.dip_desk_state.specs.Bounds.{most_papers}
 use Rattle.dip_desk_state.specs.Records.{Public, Status, Running, Paused, Closed, Ended, Won, Drawn}
-use Rattle.dip_reports.specs.Texts.{board_lines, game_line, intent_text, marked_lines, notice_lines, notice_paper, paper_end, paper_title, phase_text, status_text, terms_text, yes_or_no}
+use Rattle.dip_reports.specs.Texts.{board_lines, game_line, intent_text, marked_lines, notice_lines, notice_paper, paper_end, paper_title, phase_text, terms_text, yes_or_no}
+use Rattle.dip_desk_state.specs.Texts.{status_text}
 use Rattle.dip_desk_games.specs.Drawing.{public_drawn}
 use Rattle.dip_desk_games.specs.Noting.{is_announcement, public_noted}
 use Rattle.dip_desk_games.specs.Ticking.{public_played}

@@ -6,7 +6,8 @@ use Rattle.std.proofs.lemmas.Slice.Eq.{bytes_eq-Decides}
 use Rattle.dip_map.specs.Charts.{Chart}
 use Rattle.dip_desk_games.specs.Opening.{opening_public}
 use Rattle.dip_desk_state.specs.Records.{Public}
-use Rattle.dip_reports.specs.Texts.{board_lines, game_line, opening_paper, paper_end, status_text}
+use Rattle.dip_reports.specs.Texts.{board_lines, game_line, opening_paper, paper_end}
+use Rattle.dip_desk_state.specs.Texts.{status_text}
 use Rattle.dip_check_papers.specs.Differing.{alike, first_other}
 use Rattle.dip_check_papers.specs.Games.{IsOpening}
 use Rattle.dip_check_papers.specs.Parts.{game_line_in, lines_in, words_in}

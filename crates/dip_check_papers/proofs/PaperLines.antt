@@ -28,7 +28,8 @@ use Rattle.dip_orders_placed.specs.declared.placed.Order.TheVariants.{Hold, Move
 use Rattle.dip_orders_placed.specs.declared.placed.Other.{Other}
 use Rattle.dip_orders_placed.specs.declared.placed.PlacedOrder.{PlacedOrder}
 use Rattle.dip_desk_state.specs.Records.{Public, Status, Running, Paused, Closed, Ended, Won, Drawn}
-use Rattle.dip_reports.specs.Texts.{board_line, board_lines, by_province, centres, force_text, forces, game_line, intent_text, joined, listing, marked_line, marked_lines, notice_lines, paper_title, phase_text, status_text, terms_text, yes_or_no}
+use Rattle.dip_reports.specs.Texts.{board_line, board_lines, by_province, centres, force_text, forces, game_line, intent_text, joined, listing, marked_line, marked_lines, notice_lines, paper_title, phase_text, terms_text, yes_or_no}
+use Rattle.dip_desk_state.specs.Texts.{status_text}
 use Rattle.dip_reports.specs.declared.board_lines.Force.{Force}
 use Rattle.dip_turn.specs.Fate.{Fate}
 use Rattle.dip_turn.specs.Fate.TheVariants.{Stands, Dislodged, Destroyed}

@@ -34,7 +34,8 @@ use Rattle.dip_turn_papers.specs.Papers.{adjusted_lines, adjusted_power, adjuste
 use Rattle.dip_turn_papers.specs.declared.lines.PaperLine.{PaperLine}
 use Rattle.dip_turn_papers.specs.declared.lines.Told.TheVariants.{Built, Removed, RemovedInDisorder}
 use Rattle.dip_desk_state.specs.Records.{Public}
-use Rattle.dip_reports.specs.Texts.{game_line, phase_text, status_text, terms_text}
+use Rattle.dip_reports.specs.Texts.{game_line, phase_text, terms_text}
+use Rattle.dip_desk_state.specs.Texts.{status_text}
 use Rattle.dip_desk_games.specs.ByPlace.{are_by_place, comes_before}
 use Rattle.dip_desk_games.proofs.ListLemmas.{all_weaker}
 use Rattle.dip_check_papers.specs.Placing.{placed_by}

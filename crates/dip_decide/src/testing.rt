@@ -1,15 +1,16 @@
 //! The test of one decision, with values of one's own.
-ghost use Rattle.std.specs.Prelude.{◌≡◌, ◌+◌, ◌<◌, ◌^◌, None, IfOk};
+ghost use Rattle.std.specs.Prelude.{◌≡◌, ◌+◌, ◌<◌, ◌^◌, All, None, IfOk, length};
 ghost use Rattle.dip_map.specs.Boards.{IsOf};
 ghost use Rattle.dip_orders_placed.specs.Standing.{units_of};
-ghost use Rattle.dip_decide_rules.specs.Given.{known_of, IsAnswer};
+ghost use Rattle.dip_decide_rules.specs.Given.{situation_of, known_of, IsAnswer};
 ghost use Rattle.dip_decide_rules.specs.Meaning.{situation_on};
 ghost use Rattle.dip_decide_rules.specs.Movement.{at_first, rule};
 
 use crate::starting::values_at_start;
-use dip_decide_rules::{Decision, Tests, Values, forced_by_orders, table_on};
+use dip_decide_orders::table_on;
+use dip_decide_rules::{Decision, Room, Table, Tests, Values, forced_on};
 use dip_map::{Board, Map};
-use dip_orders_placed::Orders;
+use dip_orders_placed::{Orders, PlacedOrder};
 use std::alloc::{AllocError, Global};
 
 /// What is known before anything is decided: of all that is no decision that it is false. The only error is want of memory.
@@ -26,6 +27,21 @@ pub fn known_at_first(
     let _ = board.units();
     let table = table_on(alloc, map, board, orders.as_slice())?;
     values_at_start(alloc, &table)
+}
+
+/// The table of a movement, its orders as they are meant, and room for the searches of one test.
+fn ground_of<'a>(
+    alloc: Global,
+    map: &'a Map,
+    board: &Board,
+    orders: &[PlacedOrder],
+) -> Result<(Table<'a>, Room), AllocError>
+    requires { All (λ o. o.unit.place.prov < length map.now.provinces) orders.now }
+    ensures { IfOk result (λ g. situation_of g.0 ≡ situation_on map.now board.now orders.now) }
+{
+    let table = table_on(alloc, map, board, orders)?;
+    let room = Room::with_capacity(alloc, table.places.len())?;
+    Ok((table, room))
 }
 
 /// The value to which an open decision is forced: what its equation gives whatever the other open decisions come to. None where
@@ -50,5 +66,6 @@ pub fn forced(
 {
     orders.facts();
     let _ = board.units();
-    forced_by_orders(alloc, map, board, orders.as_slice(), known, &d, tests)
+    let ground = ground_of(alloc, map, board, orders.as_slice());
+    forced_on(ground, known, &d, tests)
 }

@@ -169,7 +169,7 @@ fn put_past(
 
 /// Lists the moves to a unit that is supported, and those to where it goes, that are open and
 /// mention a decision.
-fn put_round(
+fn put_past_support(
     table: &Table,
     values: &Values,
     work: &mut Worklist,
@@ -216,7 +216,7 @@ pub(crate) fn put(
             Ok(())
         }
         Decision::Support(h) => {
-            put_round(table, values, work, e, table.backed(*h))?;
+            put_past_support(table, values, work, e, table.backed(*h))?;
             Ok(())
         }
     }

@@ -1,15 +1,12 @@
 //! The test of a decision, and the count of all tests. Nothing else reads an equation, and nothing else raises the count.
-ghost use Rattle.std.specs.Prelude.{◌≡◌, ◌+◌, ◌<◌, ◌^◌, All, None, IfOk, length};
+ghost use Rattle.std.specs.Prelude.{◌≡◌, ◌+◌, ◌<◌, ◌^◌, Err, None, IfErr, IfOk};
 ghost use Rattle.dip_decide_rules.specs.Given.{situation_of, known_of, IsAnswer};
-ghost use Rattle.dip_decide_table.specs.Meaning.{situation_on};
 ghost use Rattle.dip_decide_rules.specs.Movement.{rule, IsSituation};
 
 use crate::corners::Corner;
 use crate::decisions::Decision;
 use crate::values::Values;
-use dip_decide_table::{Room, Table, table_on};
-use dip_map::{Board, Map};
-use dip_orders_placed::PlacedOrder;
+use dip_decide_table::{Room, Table};
 use std::alloc::{AllocError, Global};
 use std::marker::Model;
 
@@ -101,40 +98,23 @@ pub fn forced<'a>(
     value_at_corners(room, table, known, of)
 }
 
-/// The table of a movement, its orders as they are meant, and room for the searches of one test.
-fn ground_of<'a>(
-    alloc: Global,
-    map: &'a Map,
-    board: &Board,
-    orders: &[PlacedOrder],
-) -> Result<(Table<'a>, Room), AllocError>
-    requires within { All (λ o. o.unit.place.prov < length map.now.provinces) orders.now }
-    ensures { IfOk result (λ g. situation_of g.0 ≡ situation_on map.now board.now orders.now) }
-{
-    let table = table_on(alloc, map, board, orders)?;
-    let room = Room::with_capacity(alloc, table.places.len())?;
-    Ok((table, room))
-}
-
-/// Tests an open decision as `forced` does, over a table and a room that it makes itself.
-pub fn forced_by_orders(
-    alloc: Global,
-    map: &Map,
-    board: &Board,
-    orders: &[PlacedOrder],
+/// Tests an open decision as `forced` does, over a table and a room for searches; where there was no memory for these, the test is
+/// counted all the same.
+pub fn forced_on<'a>(
+    ground: Result<(Table<'a>, Room), AllocError>,
     known: &Values,
     of: &Decision,
     tests: &mut Tests,
 ) -> Result<Option<bool>, AllocError>
-    requires within { All (λ o. o.unit.place.prov < length map.now.provinces) orders.now }
     requires unknown { known_of known.now of.now ≡ None }
-    requires situation { IsSituation (situation_on map.now board.now orders.now) }
+    requires situation { IfOk ground (λ g. IsSituation (situation_of g.0)) }
     requires countable { tests.old + 1 < 2 ^ 64 }
-    ensures answer { IfOk result
-        (IsAnswer (rule (situation_on map.now board.now orders.now)) (known_of known.now) of.now) }
+    ensures answer { IfOk ground.entry (λ g. IfOk result
+        (IsAnswer (rule (situation_of g.0)) (known_of known.now) of.now)) }
+    ensures wanting { IfErr ground.entry (λ e. result ≡ Err e) }
     ensures counted { tests.new ≡ tests.old + 1 }
 {
-    match ground_of(alloc, map, board, orders) {
+    match ground {
         Ok((table, mut room)) => forced(&mut room, &table, known, of, tests),
         Err(error) => {
             tests.raise();

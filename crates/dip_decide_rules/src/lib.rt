@@ -11,8 +11,8 @@ mod values;
 
 pub use corners::Corner;
 pub use decisions::{Decision, Resolution, Step};
-pub use dip_decide_table::{Room, by_key, copy_of, is_in, meant, table_on};
-pub use forcing::{Tests, forced, forced_by_orders};
+pub use dip_decide_table::{Room, copy_of, is_in};
+pub use forcing::{Tests, forced, forced_on};
 pub use mentioning::mentions;
 pub use placed::Table;
 pub use values::{Values, Values as Known, all_false, value_at};

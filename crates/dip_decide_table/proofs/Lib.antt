@@ -1,5 +1,4 @@
 pub mod Plain
-pub mod Sorted
 pub mod TableLaws
 pub mod Backing
 pub mod Standing

@@ -6,7 +6,6 @@ use Rattle.dip_orders_placed.specs.declared.placed.Order.{Order}
 use Rattle.dip_orders_placed.specs.declared.placed.Order.TheVariants.{SupportHold, SupportMove, Convoy}
 use Rattle.dip_orders_placed.specs.declared.placed.PlacedOrder.{PlacedOrder}
 use Rattle.dip_map.specs.Charts.{Chart}
-use Rattle.dip_decide_table.specs.declared.table.Columns.{Columns}
 use Rattle.dip_decide_table.specs.Matching.{Standing, is_convoyed, is_matched, target_of}
 use Rattle.dip_decide_table.specs.Situations.{is_at}
 
@@ -52,13 +51,6 @@ carried _ = None
 abbrev pub carried_of : Option PlacedOrder → Option ℕ
 carried_of None = None
 carried_of (Some o) = carried o.order
-
--- the columns of these rows
-pub record AreColumns (m : Chart) (all : List (Option PlacedOrder)) (c : Columns) : Type 0 where
-  pub rows : c.rows.items ≡ all
-  pub targets : c.targets.items ≡ targets_of all
-  pub convoyed : c.convoyed.items ≡ convoyed_of m all
-  pub carried : c.carried.items ≡ map carried_of all
 
 -- the units whose orders name q
 abbrev pub keyed_by : (Option PlacedOrder → Option ℕ) → List ℕ → List (Option PlacedOrder) → ℕ → List ℕ

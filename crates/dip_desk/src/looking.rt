@@ -1,21 +1,20 @@
 //! Looking up what the author of a letter sees, and deciding by that.
-ghost use Rattle.std.specs.Prelude.{◌≡◌, ◌<◌, Some, IfOk, IsErrOf, bytes_eq, length};
+ghost use Rattle.std.specs.Prelude.{◌≡◌, ◌<◌, Some, IfOk, IsErrOf, length, true};
 ghost use Rattle.dip_desk_keeper.specs.Keeping.{Looks};
-ghost use Rattle.dip_desk.specs.Looked.{DecidedFor, DecidesBy, seat_seen};
+ghost use Rattle.dip_desk.specs.Looked.{DecidedFor, DecidesBy, IsOpened, is_of_seat, seat_seen};
 ghost use Rattle.dip_letters.specs.Views.{request};
-ghost use Rattle.dip_desk_machine.specs.Machine.{IsDamagedSight, IsTimely, digest, master_sight, page_shown, power_sight, sight_of};
+ghost use Rattle.dip_desk_machine.specs.Machine.{IsDamagedSight, IsTimely, master_sight, power_sight, sight_of};
 ghost use Rattle.dip_desk_machine.specs.Mail.{mail};
 ghost use Rattle.dip_desk_machine.specs.Verdicts.{verdict};
 ghost use Rattle.dip_desk_state.specs.ChangeRows as desk_rows;
 ghost use Rattle.dip_desk_state.specs.Faults.{faults_after};
-ghost use Rattle.dip_desk_state.specs.State.{Part, part_at};
 ghost use Rattle.dip_desk_state.specs.Rows as rows;
 
-use crate::views::{MasterView, SeatView};
+use crate::views::{MasterView, SeatView, opens};
 use dip_desk_keeper::Keeper;
-use dip_desk_machine::{Verdict, digest_of, seat_verdict};
+use dip_desk_machine::{Verdict, seat_verdict};
 use dip_desk_state::{Author, Item, KeepFault, Own, Public};
-use dip_letters::{Command, Letter, PlayerCommand};
+use dip_letters::Letter;
 use dip_map::Map;
 use dip_names::Power;
 use std::alloc::Global;
@@ -27,14 +26,6 @@ pub struct SeatSight {
     pub public: Rc<Public>,
     pub own: Own,
     pub page: Vec<Rc<Item>>,
-}
-
-/// Whether the letter's secret has this digest.
-fn opens(letter: &Letter<'_>, game: &str, sender: &str, kept: &[u8; 32]) -> bool
-    ensures { result ≡ bytes_eq (digest game.now sender.now letter.now.secret.now) kept.now }
-{
-    let told = digest_of(game, sender, letter.secret);
-    told.as_slice() == kept.as_slice()
 }
 
 /// What is decided of a letter of the master, where its secret is the master's.
@@ -59,55 +50,48 @@ fn decide_as_master<K: Keeper>(
     Ok((Author::TheMaster, decided))
 }
 
-/// The items of the seat's inbox that the command shows: INBOX at most ten, from a number on.
-fn look_at_page<K: Keeper>(
+/// What the seat of a power sees, where the letter is the seat's.
+fn look_when_opened<K: Keeper>(
     alloc: Global,
-    view: &mut SeatView<'_, K>,
-    command: &Command<'_>,
-) -> Result<Vec<Rc<Item>>, KeepFault>
-    requires { view.old.power < length view.old.map.now.realms }
-    ensures same_reference { view.new.keeper.ghost_name ≡ view.old.keeper.ghost_name }
-    ensures map { view.new.map.now ≡ view.old.map.now }
-    ensures game { view.new.game.now ≡ view.old.game.now }
-    ensures power { view.new.power ≡ view.old.power }
-    ensures looks { Looks view.old.map.now K.book view.old.keeper.now view.new.keeper.now
-        (λ v. (s : Part) → part_at view.old.game.now view.old.power
-        (K.book.content view.old.map.now view.old.keeper.now) ≡ Some s
-        → rows.items v.items ≡ page_shown (request command.now) s.box) ⊥ result }
-{
-    let Command::Player(PlayerCommand::Inbox(first)) = command else {
-        return Ok(Vec::new(alloc));
-    };
-    match view.page(*first)? {
-        None => Ok(Vec::new(alloc)),
-        Some(items) => Ok(items),
-    }
-}
-
-/// What the seat of a power sees, where the letter's secret is the seat's.
-fn look_as_seat<K: Keeper>(
-    alloc: Global,
-    view: &mut SeatView<'_, K>,
-    letter: &Letter<'_>,
+    view: &mut SeatView<'_, '_, '_, '_, K>,
 ) -> Result<Option<SeatSight>, KeepFault>
-    requires game { view.old.game.now ≡ letter.now.game.now }
     requires power { view.old.power < length view.old.map.now.realms }
+    requires opened { IsOpened view.old.map.now K.book
+        (is_of_seat (mail view.old.letter.now) view.old.power) view.old.keeper.now }
     ensures same_reference { view.new.keeper.ghost_name ≡ view.old.keeper.ghost_name }
     ensures looks { Looks view.old.map.now K.book view.old.keeper.now view.new.keeper.now
-        (λ x. seat_seen view.old.power x ≡ power_sight (mail letter.now) (Some view.old.power)
+        (λ x. is_of_seat (mail view.old.letter.now) view.old.power
+        (K.book.content view.old.map.now view.old.keeper.now) ≡ true
+        → seat_seen view.old.power x
+        ≡ power_sight (mail view.old.letter.now) (Some view.old.power)
         (K.book.content view.old.map.now view.old.keeper.now)) ⊥ result }
 {
     let Some(own) = view.own()? else {
         return Ok(None);
     };
-    if !opens(letter, letter.game, letter.sender, &own.digest) {
-        return Ok(None);
-    }
-    let page = look_at_page(alloc, view, &letter.command)?;
+    let page = view.page(alloc)?;
     match view.public()? {
         None => Ok(None),
         Some(public) => Ok(Some(SeatSight { public, own, page })),
     }
+}
+
+/// What the seat of a power sees, where the letter is the seat's, which is looked at first.
+fn look_as_seat<K: Keeper>(
+    alloc: Global,
+    view: &mut SeatView<'_, '_, '_, '_, K>,
+) -> Result<Option<SeatSight>, KeepFault>
+    requires power { view.old.power < length view.old.map.now.realms }
+    ensures same_reference { view.new.keeper.ghost_name ≡ view.old.keeper.ghost_name }
+    ensures looks { Looks view.old.map.now K.book view.old.keeper.now view.new.keeper.now
+        (λ x. seat_seen view.old.power x
+        ≡ power_sight (mail view.old.letter.now) (Some view.old.power)
+        (K.book.content view.old.map.now view.old.keeper.now)) ⊥ result }
+{
+    if !view.is_of_seat()? {
+        return Ok(None);
+    }
+    look_when_opened(alloc, view)
 }
 
 /// What is decided of a letter of a seat by what it sees.
@@ -154,8 +138,8 @@ pub fn decide<K: Keeper>(
     match map.power(letter.sender) {
         None => Ok((Author::Nobody, Verdict::NotKnown)),
         Some(power) => {
-            let mut view = SeatView::new(keeper, map, letter.game, power);
-            let sight = look_as_seat(alloc, &mut view, letter)?;
+            let mut view = SeatView::new(keeper, map, letter, power);
+            let sight = look_as_seat(alloc, &mut view)?;
             decide_on(alloc, map, letter, power, &sight)
         }
     }

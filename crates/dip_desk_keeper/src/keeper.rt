@@ -3,7 +3,7 @@ ghost use Rattle.std.specs.Prelude.{◌≡◌, ◌<◌, length, option_map, stri
 ghost use Rattle.dip_map.specs.Charts.{Chart};
 ghost use Rattle.dip_desk_keeper.specs.Fitting.{Fits};
 ghost use Rattle.dip_desk_keeper.specs.Keeping.{Book, Changes, Looks};
-ghost use Rattle.dip_desk_state.specs.State.{items_at, own_at, paper_at, public_at, state_after, whole_at};
+ghost use Rattle.dip_desk_state.specs.State.{digest_at, items_at, own_at, paper_at, public_at, state_after, whole_at};
 ghost use Rattle.dip_desk_state.specs.ChangeRows as desk_rows;
 ghost use Rattle.dip_desk_state.specs.Rows as rows;
 
@@ -32,6 +32,13 @@ pub trait Keeper {
         ensures { Looks map.now book self.old self.new
             (λ p. option_map (λ r. rows.public r.value) p
             ≡ public_at game.now (book.content map.now self.old)) ⊥ result };
+
+    /// The digest of a seat's secret, and nothing else of the seat; `None` where there is no such
+    /// seat.
+    fn digest(&mut self, map: &Map, game: &str, power: Power) -> Result<Option<[u8; 32]>, KeepFault>
+        requires { power < length map.now.realms }
+        ensures { Looks map.now book self.old self.new
+            (λ d. d ≡ digest_at game.now power (book.content map.now self.old)) ⊥ result };
 
     /// A seat's own part, all but the items of its inbox; `None` where there is no such seat.
     fn own(&mut self, map: &Map, game: &str, power: Power) -> Result<Option<Own>, KeepFault>

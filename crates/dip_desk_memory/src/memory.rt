@@ -87,6 +87,18 @@ impl Keeper for MemoryKeeper {
         }
     }
 
+    fn digest(
+        &mut self,
+        _map: &Map,
+        game: &str,
+        power: Power,
+    ) -> Result<Option<[u8; 32]>, KeepFault> {
+        match find_seat(&self.games, game, power) {
+            None => Ok(None),
+            Some(seat) => Ok(Some(seat.own.digest)),
+        }
+    }
+
     fn own(&mut self, _map: &Map, game: &str, power: Power) -> Result<Option<Own>, KeepFault> {
         match find_seat(&self.games, game, power) {
             None => Ok(None),

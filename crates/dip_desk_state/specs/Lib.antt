@@ -7,3 +7,4 @@ pub mod Writable
 pub mod Faults
 pub mod ChangeRows
 pub mod Fitting
+pub mod Texts

@@ -54,6 +54,9 @@ public_at name s = option_map (λ g. g.public) (game_at name s)
 abbrev pub own_at : List ℕ → ℕ → State → Option Own
 own_at name power s = option_and_then (λ g. own_of (seat_at power g.seats)) (game_at name s)
 
+abbrev pub digest_at : List ℕ → ℕ → State → Option (List ℕ)
+digest_at name power s = option_map (λ o. o.digest) (own_at name power s)
+
 -- an own part that votes for no draw and has no standing orders
 pub record IsIdle (o : Own) : Type 0 where
   pub vote : o.vote ≡ No

@@ -6,6 +6,8 @@ mod bounds;
 mod changes;
 mod faults;
 mod records;
+mod replies;
+mod statuses;
 
 pub use bounds::{MOST_ITEMS, MOST_PAPERS, MOST_SENT, bounds_are_named};
 pub use changes::{Author, Change, Desk, Effect, NewSeat};
@@ -14,3 +16,5 @@ pub use records::{
     Head, Item, Kept, Outcome, Own, Public, Reply, Standing, Status, Vote, Whole, copy_powers,
     copy_standings,
 };
+pub use replies::{reply_pieces, reply_text};
+pub use statuses::{push_powers, push_status};

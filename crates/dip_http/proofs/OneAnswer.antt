@@ -10,7 +10,7 @@ use Rattle.dip_desk_machine.specs.Mail.{Mail}
 use Rattle.dip_desk_state.specs.State.{State}
 use Rattle.dip_desk_machine.specs.View.{IsDecidedOnce}
 use Rattle.dip_desk_state.specs.Records.{Reply}
-use Rattle.dip_reports.specs.Texts.{reply_text}
+use Rattle.dip_desk_state.specs.Texts.{reply_text}
 use Rattle.dip_http_messages.specs.Answers.{answer_bytes, plain}
 use Rattle.dip_http_messages.specs.Verdicts.{Verdict as Asked, refuse, show_game, show_paper, take_letter}
 use Rattle.dip_http.specs.Answering.{Carries, IsAnswer, IsOneLetter, Posts, Takes, paper_answer, paper_named, status_of}

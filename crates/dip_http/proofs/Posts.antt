@@ -8,7 +8,7 @@ use Rattle.dip_desk_machine.specs.Mail.{Mail}
 use Rattle.dip_desk_state.specs.State.{Author, Seat, State}
 use Rattle.dip_desk_machine.specs.View.{IsAnsweredFromSeen, IsRun, Turn}
 use Rattle.dip_desk_state.specs.Records.{Reply}
-use Rattle.dip_reports.specs.Texts.{reply_text}
+use Rattle.dip_desk_state.specs.Texts.{reply_text}
 use Rattle.dip_http_messages.specs.Answers.{answer_bytes, plain}
 use Rattle.dip_http_messages.specs.Verdicts.{Verdict as Asked, is_head, refuse, show_game, show_paper, take_letter, verdict_of}
 use Rattle.dip_http.specs.Answering.{Carries, IsAnswer, IsOneLetter, Posts, Takes, status_of}

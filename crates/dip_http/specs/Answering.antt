@@ -8,7 +8,7 @@ use Rattle.dip_letters.specs.declared.letters.LetterFault.TheVariants.{Malformed
 use Rattle.dip_desk_state.specs.Records.{Public, Reply}
 use Rattle.dip_desk_state.specs.declared.records.Outcome.{Outcome}
 use Rattle.dip_desk_state.specs.declared.records.Outcome.TheVariants.{Done, Unknown, OutOfTurn}
-use Rattle.dip_reports.specs.Texts.{reply_text}
+use Rattle.dip_desk_state.specs.Texts.{reply_text}
 use Rattle.dip_desk_machine.specs.Machine.{Step, fault_reply}
 use Rattle.dip_desk_machine.specs.Mail.{IsMail, Mail}
 use Rattle.dip_desk_state.specs.State.{State, paper_at, public_at}

@@ -6,7 +6,7 @@ use Rattle.dip_desk_machine.specs.Machine.{SeatName, author, seen_by}
 use Rattle.dip_desk_machine.specs.Mail.{Mail}
 use Rattle.dip_desk_state.specs.State.{Seat, State, paper_at, public_at}
 use Rattle.dip_desk_machine.specs.View.{IsRun, Turn, reply_in}
-use Rattle.dip_reports.specs.Texts.{reply_text}
+use Rattle.dip_desk_state.specs.Texts.{reply_text}
 use Rattle.dip_http_messages.specs.Answers.{answer_bytes, plain}
 use Rattle.dip_http_messages.specs.Heads.{IsHead}
 use Rattle.dip_http_messages.specs.Verdicts.{is_get, take_letter, verdict_of}

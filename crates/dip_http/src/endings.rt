@@ -3,14 +3,13 @@ ghost use Rattle.std.specs.Prelude.{◌≡◌, false, None, IfErr, OnErr, OnOk};
 ghost use Rattle.std.specs.List.{flat_map};
 ghost use Rattle.std.specs.Io.KnownBytes.{Appends};
 ghost use Rattle.dip_desk_state.specs.Rows as rows;
-ghost use Rattle.dip_reports.specs.Texts.{reply_text};
+ghost use Rattle.dip_desk_state.specs.Texts.{reply_text};
 ghost use Rattle.dip_http_messages.specs.Answers.{IsPart, answer_bytes, plain, refusal};
 ghost use Rattle.dip_http_messages.specs.AnswerViews.{allowed, status_number};
 
 use crate::faults::HttpFault;
-use dip_desk_state::{KeepFault, Reply};
+use dip_desk_state::{KeepFault, Reply, reply_pieces};
 use dip_http_messages::{Answer, HttpRefusal, write_answer};
-use dip_reports::reply_pieces;
 use http::StatusCode;
 use itoa::Buffer;
 use std::io::Write;

@@ -5,7 +5,8 @@ use Rattle.std.specs.Str.Lines.{lines}
 use Rattle.json.specs.Print.{quoted}
 use Rattle.dip_map.specs.Charts.{Chart}
 use Rattle.dip_desk_state.specs.Records.{Public}
-use Rattle.dip_reports.specs.Texts.{board_lines, phase_text, status_text}
+use Rattle.dip_reports.specs.Texts.{board_lines, phase_text}
+use Rattle.dip_desk_state.specs.Texts.{status_text}
 
 -- texts in quotes, with a comma between two
 abbrev pub quoted_list : List (List ℕ) → List ℕ

@@ -5,7 +5,8 @@ use Rattle.serde_json.specs.Data.{Data, array, boolean, member, no_members, numb
 use Rattle.serde_json.specs.View.{items_of}
 use Rattle.dip_map.specs.Charts.{Chart}
 use Rattle.dip_desk_state.specs.Records.{Public}
-use Rattle.dip_reports.specs.Texts.{board_lines, phase_text, status_text}
+use Rattle.dip_reports.specs.Texts.{board_lines, phase_text}
+use Rattle.dip_desk_state.specs.Texts.{status_text}
 
 -- its members, in the order of their keys
 abbrev pub state_data : Chart → Public → Data

@@ -3,14 +3,15 @@ ghost use Rattle.std.specs.Prelude.{◌≡◌, IfOk, map as each, string_bytes};
 ghost use Rattle.std.specs.Str.Lines.{lines};
 ghost use Rattle.serde_json.specs.Data.{array, string};
 ghost use Rattle.serde_json.specs.View.{items_of, view};
-ghost use Rattle.dip_reports.specs.Texts.{board_lines, phase_text, status_text};
+ghost use Rattle.dip_reports.specs.Texts.{board_lines, phase_text};
+ghost use Rattle.dip_desk_state.specs.Texts.{status_text};
 ghost use Rattle.dip_desk_state.specs.Rows as rows;
 ghost use Rattle.dip_http_messages.specs.Texts.{state_text};
 ghost use Rattle.dip_http_messages.specs.Values.{state_data};
 
-use dip_desk_state::{Public, Status};
+use dip_desk_state::{Public, Status, push_status};
 use dip_map::{Board, Map, Phase};
-use dip_reports::{push_board_lines, push_phase, push_status};
+use dip_reports::{push_board_lines, push_phase};
 use serde_json::{Map as Members, Value, put};
 use std::alloc::{AllocError, Global};
 

@@ -17,7 +17,8 @@ use crate::version::write_version;
 use dip_desk_machine::new_desks_are_lawful;
 use dip_judge_runs::{answer_letters, text_said};
 use dip_judge_words::{Args, read_args};
-use dip_map::{Map, STANDARD};
+use dip_map::Map;
+use dip_map_text::STANDARD;
 use sqlite::Start;
 use std::io::{Read, Write};
 

@@ -11,7 +11,8 @@ ghost use Rattle.dip_judge_runs.specs.MapFiles.{IsMapOf, IsNoMapOf};
 
 use dip_check_runs::Progress;
 use dip_judge_runs::{NoMap, read_map};
-use dip_map::{Map, STANDARD};
+use dip_map::Map;
+use dip_map_text::STANDARD;
 use dip_store::{StoreFault, open_fault};
 use mio::net;
 use sqlite::{Connection, FileFrom, FileStore, Start};

@@ -16,7 +16,7 @@ use Rattle.dip_desk_machine.specs.View.{IsHistory}
 use Rattle.dip_desk_machine.proofs.Histories.{history_more}
 use Rattle.dip_desk_machine.proofs.Publishing.{fair}
 use Rattle.dip_desk_machine.specs.Published.{MovementsAreDecided}
-use Rattle.dip_reports.specs.Texts.{reply_text}
+use Rattle.dip_desk_state.specs.Texts.{reply_text}
 use Rattle.dip_desk_state.specs.Records.{Reply}
 use Rattle.dip_judge_runs.specs.RunFaults.{IsTakingFault}
 use Rattle.dip_judge_runs.specs.Runs.{AnswersFront, AreReplies, Finds, IsAnswered, IsTurn, IsWritten, Stops, StopsAt, TakesNext, behind, letters_in}

@@ -4,7 +4,7 @@ use Rattle.std.specs.Str.{IsUtf8}
 use Rattle.std.specs.declared.alloc.Global.{Global}
 use Rattle.dip_names.specs.Results.{Fails}
 use Rattle.dip_map.specs.Charts.{Chart}
-use Rattle.dip_map.specs.Stated.{map_in}
+use Rattle.dip_map_text.specs.Stated.{map_in}
 use Rattle.dip_judge_runs.specs.declared.map_file.NoMap.{NoMap}
 use Rattle.dip_judge_runs.specs.declared.map_file.NoMap.TheVariants.{File, Map}
 use Rattle.dip_judge_runs.specs.Reading.{IsLonger, IsReadWithin}

@@ -11,7 +11,7 @@ use Rattle.dip_letters.specs.declared.letters.Next.TheVariants.{Taken, Fault, En
 use Rattle.dip_desk_machine.specs.Machine.{IsDamagedBy, Step, fault_reply}
 use Rattle.dip_map.specs.Charts.{Chart}
 use Rattle.dip_desk_state.specs.State.{State}
-use Rattle.dip_reports.specs.Texts.{reply_text}
+use Rattle.dip_desk_state.specs.Texts.{reply_text}
 use Rattle.dip_desk_state.specs.Records.{Reply}
 use Rattle.dip_desk_state.specs.Rows as rows
 use Rattle.dip_desk_state.specs.declared.faults.KeepFault.{KeepFault}

@@ -6,7 +6,8 @@ ghost use Rattle.dip_judge_runs.specs.MapFiles as said;
 ghost use Rattle.dip_judge_runs.specs.MapFiles.{IsFileFault, IsFileText, IsMapOf, IsNoMapOf};
 
 use crate::reading::{ReadFault, read_whole};
-use dip_map::{Map, STANDARD};
+use dip_map::Map;
+use dip_map_text::{STANDARD, map_from_toml};
 use dip_names::MapFault;
 use std::alloc::Global;
 use std::error::Error;
@@ -143,11 +144,11 @@ pub fn read_map<R: Files>(
         (IsNoMapOf STANDARD.now (option_map (λ p. p.now) path.entry)) }
 {
     let Some(path) = path else {
-        let map = Map::from_toml(alloc, STANDARD)?;
+        let map = map_from_toml(alloc, STANDARD)?;
         return Ok((map, None));
     };
     let text = read_file(rt, alloc, path)?;
-    let map = Map::from_toml(alloc, text.as_str())?;
+    let map = map_from_toml(alloc, text.as_str())?;
     Ok((map, Some(text)))
 }
 

@@ -1,3 +1,2 @@
-pub mod Front
 pub mod BoardLaws
 pub mod Searching

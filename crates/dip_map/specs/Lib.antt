@@ -1,4 +1,4 @@
-pub mod Stated
+pub mod Checked
 pub mod Boards
 pub use Rattle.dip_map_chart.specs.Charts
 pub use Rattle.dip_map_chart.specs.Walks

@@ -3,14 +3,12 @@ ghost use Rattle.std.specs.Prelude.{◌≡◌, ◌<◌, length, All, IfOk, true}
 ghost use Rattle.std.specs.Cmp.Lexicographic.{slice_cmp};
 ghost use Rattle.std.specs.Ordering.{nat_cmp};
 ghost use Rattle.dip_map_chart.specs.Charts.{Chart, IsMap, provs, powers, province, realm, shore, army_next, fleet_next, home, is_home, prov_of, power_of, coast_of, is_centre, is_fleet_place, may_stand, is_unit, is_army_next, is_fleet_next};
-ghost use Rattle.dip_map.specs.Stated.{check, map_in};
+ghost use Rattle.dip_map.specs.Checked.{check};
 ghost use Rattle.dip_names.specs.Results.{Gives};
 ghost use Rattle.dip_map_chart.specs.Walks.{IsDistance};
 
 use crate::iterators::{Powers, Provs};
-use crate::stated::parts_in;
 use dip_map_chart::{Distances, Parts, Province, Realm};
-use dip_map_file::{draft_of, tables_of};
 use dip_names::{Kind, MapFault, Place, Power, Prov, Terrain, Unit};
 use std::alloc::Global;
 use std::cmp::Ordering;
@@ -55,24 +53,13 @@ fn index_of(provinces: &[Province], code: &[u8]) -> Option<usize>
 }
 
 impl Map {
-    /// The map that a text states: TOML with the map's name, its powers and its provinces, as `STANDARD` has them.
+    /// The map of these parts.
     ///
-    /// Else the first fault: `NotToml`, `WrongField`, `OverLimit`, `UnknownName`, `DoubledName`, `NotSymmetric`, in that order. Want of memory
-    /// may come in place of any.
-    #[tactic(auto, unfolding(crate::specs::Stated::map_in))]
-    pub fn from_toml(alloc: Global, text: &str) -> Result<Map, MapFault>
-        ensures stated { Gives (λ m. m) result (map_in text.now) }
+    /// # Errors
+    /// The first fault that they have. Want of memory may come in place of any.
+    pub fn of(alloc: Global, parts: Parts) -> Result<Map, MapFault>
+        ensures stated { Gives (λ m. m) result (check parts) }
         ensures lawful { IfOk result IsMap }
-    {
-        let file = tables_of(alloc, text)?;
-        let draft = draft_of(alloc, &file)?;
-        let parts = parts_in(alloc, &draft)?;
-        Map::of(alloc, parts)
-    }
-
-    /// The map of these parts, or the first fault that they have.
-    fn of(alloc: Global, parts: Parts) -> Result<Map, MapFault>
-        ensures { Gives (λ m. m) result (check parts) }
     {
         if let Some(fault) = parts.first_fault() {
             return Err(fault);

@@ -26,7 +26,7 @@ use Rattle.dip_map_chart.proofs.Found.{test_at}
 use Rattle.dip_map.proofs.BoardLaws.{centre_low}
 use Rattle.dip_map_laws.proofs.CheckLaws.{no_fault}
 use Rattle.dip_map_laws.specs.Spelled.{SpellsMap, StatesWhatItSpells, code_of, map_draft, power_draft, province_draft, shore_draft, site_by, site_of, unit_draft}
-use Rattle.dip_map.specs.Stated.{chart_at, chart_of, coast_at, each, each_from, is_few, map_in, or_unknown, place_at, prov_at, province_at, realm_at, shore_at, unit_at, unit_of}
+use Rattle.dip_map_text.specs.Stated.{chart_at, chart_of, coast_at, each, each_from, is_few, map_in, or_unknown, place_at, prov_at, province_at, realm_at, shore_at, unit_at, unit_of}
 use Rattle.dip_map_laws.proofs.TellingLaws.{ChartRead, chart_read, looked_place, looked_up, of_draft, of_shore, parsed_file}
 
 -- what was looked up for each of a list tells the list

@@ -21,7 +21,8 @@ use Rattle.dip_map_file.specs.Tables.{HasTable, Members, Names, Says, get_member
 use Rattle.dip_map_laws.proofs.FileLaws.{ListsCodes, ProvinceRead, ReadFile, bind_ok, contains_first, contains_more, element_cases, file_read, flag_is, member_at, power_read, province_read, terrain_is, ListsShore, no_shore_draft, shore_told}
 use Rattle.dip_map_chart.specs.Charts.{Chart, IsMap, Province, Realm, army_next, home, no_province, no_realm, prov_of, province, realm, Shore, coast_of, is_fleet_next, is_fleet_place, no_shore, shore}
 use Rattle.dip_map_chart.specs.Checks.{first_fault}
-use Rattle.dip_map.specs.Stated.{chart_at, chart_of, check, check_by, each, each_from, is_few, or_unknown, within_limits, parts_at, prov_at, province_at, realm_at, shore_at, map_in, unit_at, coast_at, place_at}
+use Rattle.dip_map.specs.Checked.{check, check_by}
+use Rattle.dip_map_text.specs.Stated.{chart_at, chart_of, each, each_from, is_few, or_unknown, within_limits, parts_at, prov_at, province_at, realm_at, shore_at, map_in, unit_at, coast_at, place_at}
 use Rattle.dip_map_laws.specs.Spelled.{site_of}
 use Rattle.dip_map_laws.specs.Telling.{IsTold, IsToldPower, StatesWhatItTells, place_text}
 

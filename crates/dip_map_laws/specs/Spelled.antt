@@ -8,7 +8,7 @@ use Rattle.dip_map_chart.specs.Charts.{Chart, IsMap, Province, Realm, Shore, pro
 use Rattle.dip_map_file.specs.Drafts.{Draft, PowerDraft, ProvinceDraft, ShoreDraft, Site, UnitDraft}
 use Rattle.dip_map_laws.specs.Spelling.{Spells}
 use Rattle.dip_map_file.specs.Tables.{Members, parse_document}
-use Rattle.dip_map.specs.Stated.{map_in}
+use Rattle.dip_map_text.specs.Stated.{map_in}
 
 -- the code of a province
 abbrev pub code_of : Chart → ℕ → List ℕ

@@ -3,7 +3,7 @@ use Rattle.std.specs.Prelude.{◌≡◌, ◌↔◌, ◌<◌, ℕ, true, Contains
 use Rattle.dip_map_file.specs.Tables.{FleetNames, HasTable, Members, Names, Says, boolean, get_member, parse_document, site_text, terrain_word}
 use Rattle.dip_names.specs.declared.names.Place.{Place}
 use Rattle.dip_map_chart.specs.Charts.{Chart, IsMap, home, is_army_next, is_fleet_next, is_fleet_place, province, realm, shore}
-use Rattle.dip_map.specs.Stated.{map_in}
+use Rattle.dip_map_text.specs.Stated.{map_in}
 
 -- a place as it is written: its province's code, and the name of its coast, if it has one
 abbrev pub place_text : Chart → Place → List ℕ

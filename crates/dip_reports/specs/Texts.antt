@@ -9,6 +9,7 @@ use Rattle.dip_reports.specs.declared.refusals.Refusal.{Refusal}
 use Rattle.dip_reports.specs.declared.refusals.Refusal.TheVariants.{Malformed, Unknown, Stale, NumberUsed, TooLong, QuotaUsed, NoGrey, GameOver, WrongSender, NotDue, NameTaken}
 use Rattle.dip_desk_state.specs.Records.{Public, Own, Item, White, Grey, Head, Reply, Standing, Status, Running, Paused, Closed, Ended, Won, Drawn, Vote, No, Yes, For}
 use Rattle.dip_map.specs.Charts.{Chart, powers, province, provs, realm}
+use Rattle.dip_desk_state.specs.Texts.{status_text}
 use Rattle.dip_letters.specs.Notes.{NoticeRequest}
 use Rattle.dip_letters.specs.Notes.NoticeRequest.{Announce, Close, Pause, Period, Resume}
 use Rattle.dip_orders.specs.Faults.{fault_number, fault_words}
@@ -28,15 +29,6 @@ phase_text p = season_text p.season (decimal p.year)
     season_text FallMoves year = codes "F" ++ year ++ codes "M"
     season_text FallRetreats year = codes "F" ++ year ++ codes "R"
     season_text Winter year = codes "W" ++ year ++ codes "A"
-
--- how a game stands, with the powers that won or share it
-unfoldable pub status_text : Chart → Status → List ℕ
-status_text m Running = codes "running"
-status_text m Paused = codes "paused"
-status_text m Closed = codes "closed"
-status_text m Ended = codes "ended"
-status_text m (Won power) = codes "won by " ++ (realm m power).name
-status_text m (Drawn powers) = codes "drawn by" ++ flat_map (λ p. codes " " ++ (realm m p).name) powers
 
 abbrev pub yes_or_no : Bool → List ℕ
 yes_or_no b = if b then codes "YES" else codes "NO"
@@ -228,11 +220,3 @@ items_text first (i ∷ is) = item_text first i ++ items_text (first + 1) is
 -- what INBOX answers: how many items the inbox has, and the items from a number on
 abbrev pub inbox_text : ℕ → ℕ → List Item → List ℕ
 inbox_text total first items = codes "INBOX " ++ decimal total ++ codes "\n" ++ items_text first items
-
-abbrev pub head_text : Option Head → List ℕ
-head_text None = codes "REPLY nobody 0\n"
-head_text (Some h) = codes "REPLY " ++ h.game ++ codes " " ++ h.sender ++ codes " " ++ decimal h.number ++ codes "\n"
-
--- a reply: its head, its lines, END
-abbrev pub reply_text : Reply → List ℕ
-reply_text r = head_text r.head ++ r.text ++ codes "END\n"

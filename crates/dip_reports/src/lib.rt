@@ -10,7 +10,6 @@ mod notices;
 mod opening_paper;
 mod paper_parts;
 mod refusals;
-mod replies;
 mod show;
 mod votes;
 
@@ -21,12 +20,11 @@ pub use board_lines::push_board_lines;
 pub use dip_desk_state::{
     Head, Item, Kept, Outcome, Own, Public, Reply, Standing, Status, Vote, Whole,
 };
-pub use game_line::{push_game_line, push_phase, push_status};
+pub use game_line::{push_game_line, push_phase};
 pub use inbox::inbox_text;
 pub use laws::board_lines_are_in_order;
 pub use notices::{draw_paper_text, notice_paper_text};
 pub use opening_paper::opening_paper_text;
 pub use refusals::Refusal;
-pub use replies::{reply_pieces, reply_text};
 pub use show::show_text;
 pub use votes::vote_line;

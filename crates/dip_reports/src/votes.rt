@@ -3,8 +3,7 @@ ghost use Rattle.std.specs.Prelude.{◌≡◌, ◌++◌, IfOk, OnOk, string_byte
 ghost use Rattle.dip_reports.specs.Texts.{vote_line, vote_text};
 ghost use Rattle.dip_desk_state.specs.Rows as rows;
 
-use crate::game_line::push_powers;
-use dip_desk_state::Vote;
+use dip_desk_state::{Vote, push_powers};
 use dip_map::Map;
 use std::alloc::{AllocError, Global};
 

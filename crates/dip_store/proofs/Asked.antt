@@ -4,12 +4,13 @@ use Rattle.std.specs.List.{AllByRecursion}
 use Rattle.std.proofs.lemmas.Bool.{cases_Bool}
 use Rattle.dip_map.specs.Charts.{Chart, IsMap}
 use Rattle.dip_store_tables.specs.Boards.{power_name}
-use Rattle.dip_desk_state.specs.State.{Game, Part, game_at, seat_at, items_at, page_of, paper_at, paper_numbered, whole_at, whole_of}
+use Rattle.dip_desk_state.specs.State.{Game, Part, digest_at, game_at, seat_at, items_at, page_of, paper_at, paper_numbered, whole_at, whole_of}
+use Rattle.dip_desk_state.specs.Records.{Own}
 use Rattle.dip_desk_state.proofs.KeyedLemmas.{names_tell}
 use Rattle.dip_store_tables.specs.Coding.{AreCoded}
 use Rattle.dip_store_tables.specs.Counting.{AreCounted, counted, item_numbers, paper_numbers}
-use Rattle.dip_store_tables.specs.Looking.{PageIsFound, PaperIsFound}
-use Rattle.dip_store_tables.specs.Reading.{game_of, part_of, state_of}
+use Rattle.dip_store_tables.specs.Looking.{OwnIsFound, PageIsFound, PaperIsFound}
+use Rattle.dip_store_tables.specs.Reading.{game_of, own_of, part_of, state_of}
 use Rattle.dip_store_tables.specs.Tables.{GameRow, SeatRow, Tables, is_named, is_paper_in, is_seat, is_seat_in}
 use Rattle.sqlite.specs.Order.{Row}
 use Rattle.dip_store_sql.specs.Showing.{is_numbered, show_game}
@@ -78,6 +79,13 @@ module _ (m : Chart) (law : PaperIsFound m) (t : Tables) (counts : AreCounted t)
   paper_is row body some read =
       let game = some_shown show_game (find (is_named name) t.games) row some in
       read ∙ paper_found m law t counts name number game.0 game.1
+
+-- the digest of a seat's secret
+pub digest_found : (m : Chart) → OwnIsFound m → (t : Tables) → AreCoded m t → (name : List ℕ) (power : ℕ) → power < length m.realms
+    → option_map (λ s. s.digest) (find (is_seat name (power_name m power)) t.seats) ≡ digest_at name power (state_of m t)
+digest_found m law t coded name power low = sym (
+    ap (option_map (λ (o : Own). o.digest)) (law t name power coded low)
+    ∙ map_twice (λ (o : Own). o.digest) (own_of m t.pending t.ballots) (find (is_seat name (power_name m power)) t.seats))
 
 -- a page of a seat's inbox
 module _ (m : Chart) (ok : IsMap m) (law : PageIsFound m) (t : Tables) (coded : AreCoded m t) (counts : AreCounted t) (name : List ℕ) (power first most : ℕ) (low : power < length m.realms) where

@@ -12,7 +12,7 @@ use dip_desk_keeper::Keeper;
 use dip_desk_state::{Change, Desk, Item, KeepFault, Own, Public, Whole};
 use dip_map::{Map, Power};
 use dip_store_changes::{changes_are_made, make};
-use dip_store_looks::{look_desk, look_items, look_own, look_whole};
+use dip_store_looks::{look_desk, look_digest, look_items, look_own, look_whole};
 use dip_store_memory::{IdleSeats, SeenGames, SeenOwns};
 use dip_store_sql::RowFault;
 use dip_store_tables::{
@@ -131,6 +131,23 @@ impl<S: Alter> Keeper for SqlKeeper<S> {
                 self.seen.learn(self.alloc, game, &public);
                 Ok(public)
             }
+            Err(fault) => Err(self.told(row_fault(fault))),
+        }
+    }
+
+    fn digest(
+        &mut self,
+        map: &Map,
+        game: &str,
+        power: Power,
+    ) -> Result<Option<[u8; 32]>, KeepFault> {
+        if let Some(seen) = self.owns.find(game, power) {
+            return Ok(Some(seen.digest));
+        }
+        own_is_found();
+        map.facts();
+        match look_digest(&mut self.conn, map, game, power) {
+            Ok(digest) => Ok(digest),
             Err(fault) => Err(self.told(row_fault(fault))),
         }
     }

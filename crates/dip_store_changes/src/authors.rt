@@ -9,9 +9,8 @@ ghost use Rattle.dip_store_sql.specs.TablesAfter.{on_desk, on_seat};
 ghost use Rattle.dip_store_sql.specs.Transactions.{Does, always};
 ghost use Rattle.dip_store_counts.specs.Noting.{NextRowsAreNoted, noting_row, on_row, row_noted};
 
-use dip_desk_state::{Author, Change, Head, Kept, Outcome, Reply};
+use dip_desk_state::{Author, Change, Head, Kept, Outcome, Reply, reply_text};
 use dip_map::Map;
-use dip_reports::reply_text;
 use dip_store_counts::AuthorRow;
 use dip_store_sql::{LastLetter, SeatRow, note_desk, renew_seat};
 use sqlite::{Alter, Error, Transaction};

@@ -28,7 +28,8 @@ use Rattle.dip_store_tables.specs.Written.{IsGameWritten}
 use Rattle.dip_store_looks.specs.Readable.{IsCentreReadable, IsGameReadable, IsUnitReadable}
 use Rattle.dip_store_looks.specs.Shown.{shown_centre, shown_unit}
 use Rattle.dip_store_looks.proofs.PublicLemmas.{found_named}
-use Rattle.dip_store_looks.proofs.RowLemmas.{has_number, has_text, small_number}
+use Rattle.dip_store_looks.proofs.RowLemmas.{has_number, small_number}
+use Rattle.dip_store_sql.proofs.Typed.{has_text}
 use Rattle.dip_store_tables.proofs.Parts.{below}
 
 -- the names of coasts

@@ -4,5 +4,4 @@ pub mod OwnLemmas
 pub mod PageLemmas
 pub mod PublicLemmas
 pub mod RowLemmas
-pub mod Typed
 pub mod WholeLemmas

@@ -3,10 +3,10 @@ use Rattle.std.proofs.Common.{◌≡◌, ℕ, ◌<◌, List, [], ◌∷◌, leng
 use Rattle.std.specs.List.{find}
 use Rattle.std.proofs.lemmas.Bool.{cases_Bool, and_parts}
 use Rattle.std.proofs.lemmas.Slice.Eq.{bytes_eq-Decides}
-use Rattle.sqlite.specs.Order.{Row}
+use Rattle.sqlite.specs.Order.{Row, bytes, column}
 use Rattle.dip_map.specs.Charts.{Chart, IsMap}
 use Rattle.dip_store_tables.specs.Boards.{power_in, power_name, or_zero}
-use Rattle.dip_store_sql.specs.Showing.{show_order, show_seat}
+use Rattle.dip_store_sql.specs.Showing.{show_digest, show_order, show_seat}
 use Rattle.dip_store_tables.specs.Reading.{own_of, pending_of, standing_of}
 use Rattle.dip_store_tables.specs.Tables.{PendingRow, SeatRow, Tables, is_pending, is_seat}
 use Rattle.dip_desk_state.specs.Records.{Vote}
@@ -69,3 +69,12 @@ module _ (m : Chart) where
       by_seat (Some s) found =
           let same : row ≡ show_seat s = (let both = shown ∙ ap (option_map show_seat) found in cc) in
           ap Some (of_seat s (found_seat name (power_name m power) t.seats s found) same) ∙ sym (ap (option_map (own_of m t.pending t.ballots)) found)
+
+-- the digest in its row
+pub digest_is : (t : Tables) (name power : List ℕ) (row : Row) → Some row ≡ option_map show_digest (find (is_seat name power) t.seats)
+    → Some (bytes (column row 0)) ≡ option_map (λ s. s.digest) (find (is_seat name power) t.seats)
+digest_is t name power row = by_seat (find (is_seat name power) t.seats)
+  where
+    by_seat : (o : Option SeatRow) → Some row ≡ option_map show_digest o → Some (bytes (column row 0)) ≡ option_map (λ s. s.digest) o
+    by_seat None shown = absurd (cc)
+    by_seat (Some s) shown = let same : row ≡ show_digest s = cc in ap (λ (r : Row). Some (bytes (column r 0))) same

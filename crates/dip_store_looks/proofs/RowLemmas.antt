@@ -13,17 +13,16 @@ use Rattle.dip_store_tables.proofs.MapTexts.{code_text, power_text}
 use Rattle.dip_store_tables.proofs.VoteLemmas.{ballot_is_text}
 use Rattle.dip_desk_state.specs.Records.{Item, White, Grey, Kept}
 use Rattle.dip_store_sql.specs.Rows.{number_in}
-use Rattle.dip_store_sql.specs.Showing.{is_item, is_numbered, show_ballot, show_desk, show_item, show_listed, show_order, show_paper, show_seat}
+use Rattle.dip_store_sql.specs.Values.{HasDigest, HasNumber, HasText}
+use Rattle.dip_store_sql.proofs.Typed.{has_text}
+use Rattle.dip_store_sql.specs.Showing.{is_item, is_numbered, show_ballot, show_desk, show_digest, show_item, show_listed, show_order, show_paper, show_seat}
 use Rattle.dip_store_sql.specs.TablesAfter.{is_first}
 use Rattle.dip_store_tables.specs.Coding.{AreCoded, IsSeatOf}
 use Rattle.dip_store_tables.specs.Tables.{BoxRow, DeskRow, PendingRow, SeatRow, Tables, is_ballot, is_pending, is_seat, is_seat_in}
 use Rattle.dip_store_tables.specs.Writing.{box_row, number_of, whole_reply}
 use Rattle.dip_store_tables.specs.Votes.{IsBallotText}
 use Rattle.dip_store_tables.specs.Written.{IsDeskWritten, IsItemWritten, IsOrderWritten, IsSeatWritten, KeepsLetter}
-use Rattle.dip_store_looks.specs.Readable.{IsBallotReadable, HasDigest, HasNumber, HasText, IsDeskReadable, IsItemReadable, IsKeptReadable, IsListedReadable, IsOrderReadable, IsSeatReadable}
-
-pub has_text : (r : Row) (at : ℕ) (t : List ℕ) → at < length r → column r at ≡ Words t → IsText t → HasText r at
-has_text r at t low is it = record { there = low; text = t; is = is; utf8 = it.utf8 }
+use Rattle.dip_store_looks.specs.Readable.{IsBallotReadable, IsDeskReadable, IsItemReadable, IsKeptReadable, IsListedReadable, IsOrderReadable, IsSeatReadable}
 
 pub has_number : (r : Row) (at n : ℕ) → at < length r → column r at ≡ Int (pos n) → n < 2 ^ 32 → HasNumber r at
 has_number r at n low is small = record { there = low; number = n; is = is; low = small }
@@ -131,6 +130,10 @@ module _ (m : Chart) (t : Tables) (ours : AreOurs m t) where
 
   pub seat_found_readable : (name power : List ℕ) (row : Row) → Some row ≡ option_map show_seat (find (is_seat name power) t.seats) → IsSeatReadable row 0
   seat_found_readable name power row shown = found_as IsSeatOurs (λ r. IsSeatReadable r 0) show_seat (is_seat name power) seat_readable t.seats row seats_ours shown
+
+  pub digest_found_readable : (name power : List ℕ) (row : Row) → Some row ≡ option_map show_digest (find (is_seat name power) t.seats) → HasDigest row 0
+  digest_found_readable name power row shown =
+      found_as IsSeatOurs (λ r. HasDigest r 0) show_digest (is_seat name power) (λ s it. has_digest (show_digest s) 0 s.digest (omega arith) refl it.0.digest) t.seats row seats_ours shown
 
   pub seats_readable : (name : List ℕ) (rows : List Row) → rows ≡ map show_listed (filter (is_seat_in name) t.seats) → AllByRecursion (IsListedReadable m) rows
   seats_readable name rows is =

@@ -10,34 +10,8 @@ use Rattle.dip_map.specs.Charts.{Chart}
 use Rattle.dip_store_tables.specs.Columns.{IsPrinted, IsStatusText}
 use Rattle.dip_store_tables.specs.Votes.{IsBallotText}
 use Rattle.dip_store_sql.specs.Rows.{number_in}
+use Rattle.dip_store_sql.specs.Values.{HasDigest, HasNumber, HasText, HasTick}
 use Rattle.dip_store_looks.specs.Shown.{shown_centre, shown_unit}
-
--- the column has a text of characters
-pub record HasText (r : Row) (at : ℕ) : Type 0 where
-  pub there : at < length r
-  pub text : List ℕ
-  pub is : column r at ≡ Words text
-  pub utf8 : IsUtf8 text
-
--- a number of 32 bits
-pub record HasNumber (r : Row) (at : ℕ) : Type 0 where
-  pub there : at < length r
-  pub number : ℕ
-  pub is : column r at ≡ Int (pos number)
-  pub low : number < 2 ^ 32
-
--- a number from 0 on
-pub record HasTick (r : Row) (at : ℕ) : Type 0 where
-  pub there : at < length r
-  pub number : ℕ
-  pub is : column r at ≡ Int (pos number)
-
--- 32 bytes
-pub record HasDigest (r : Row) (at : ℕ) : Type 0 where
-  pub there : at < length r
-  pub all : List ℕ
-  pub is : column r at ≡ Bytes all
-  pub length_is : length all ≡ 32
 
 pub record IsUnitReadable (r : Row) : Type 0 where
   pub province : HasText r 0

@@ -3,14 +3,14 @@ ghost use Rattle.std.specs.Prelude.{◌≡◌, ◌<◌, ◌^◌, IfErr, IfOk, ma
 ghost use Rattle.sqlite.specs.Order.{bytes, column};
 ghost use Rattle.dip_store_tables.specs.Boards.{board_of};
 ghost use Rattle.dip_store_sql.specs.RowFaults.{IsFromOutside};
-ghost use Rattle.dip_store_looks.specs.Readable.{HasNumber, IsBoardReadable};
+ghost use Rattle.dip_store_looks.specs.Readable.{IsBoardReadable};
+ghost use Rattle.dip_store_sql.specs.Values.{HasNumber};
 ghost use Rattle.dip_store_looks.specs.Shown.{shown_centre, shown_unit};
 ghost use Rattle.dip_store_sql.specs.Rows.{number_in};
 
 use crate::columns::{centres_of, units_of};
-use crate::values::{number_at, text_at};
 use dip_map::{Board, Map};
-use dip_store_sql::RowFault;
+use dip_store_sql::{RowFault, number_at, text_at};
 use dip_store_tables::read_board;
 use sqlite::Row;
 use std::alloc::Global;

@@ -6,8 +6,7 @@ ghost use Rattle.dip_store_looks.specs.Readable.{IsCentreReadable, IsUnitReadabl
 ghost use Rattle.dip_store_looks.specs.Shown.{shown_centre, shown_unit};
 ghost use Rattle.dip_store_sql.specs.Causes.{IsCaused};
 
-use crate::values::{number_at, text_at};
-use dip_store_sql::RowFault;
+use dip_store_sql::{RowFault, number_at, text_at};
 use dip_store_tables::{CentreColumns, UnitColumns};
 use sqlite::{Error, Row};
 use std::alloc::Global;

@@ -11,9 +11,9 @@ ghost use Rattle.dip_store_sql.specs.Calls.{IsKept, Selects, does_show, is_hones
 ghost use Rattle.dip_store_tables.specs.Coding.{AreCoded};
 ghost use Rattle.dip_store_tables.specs.Reading.{state_of};
 
-use crate::letters::{digest_in, kept_in};
+use crate::letters::kept_in;
 use dip_desk_state::Desk;
-use dip_store_sql::{RowFault, find_desk};
+use dip_store_sql::{RowFault, digest_at, find_desk};
 use sqlite::{Alter, Connection, Row};
 use std::alloc::Global;
 
@@ -22,7 +22,7 @@ fn desk_in(alloc: Global, row: &Row) -> Result<Desk, RowFault>
     ensures own { IsDeskReadable row.now → IfErr result (IsFromOutside ⊥) }
 {
     Ok(Desk {
-        digest: digest_in(row, 2)?,
+        digest: digest_at(row, 2)?,
         kept: kept_in(alloc, row, 3)?,
     })
 }

@@ -16,11 +16,10 @@ ghost use Rattle.dip_store_tables.specs.Counting.{counted, item_numbers};
 ghost use Rattle.dip_store_tables.specs.Reading.{item_of, items_of};
 ghost use Rattle.dip_store_tables.specs.Tables.{is_seat};
 
-use crate::values::{number_at, text_at};
 use dip_desk_state::Item;
 use dip_map::Map;
 use dip_names::Power;
-use dip_store_sql::{RowFault, find_item, find_seat};
+use dip_store_sql::{RowFault, find_item, find_seat, number_at, text_at};
 use dip_store_tables::{ItemColumns, page_is_found, read_item};
 use sqlite::{Alter, Connection, Error, Row};
 use std::alloc::Global;

@@ -1,30 +1,17 @@
-//! Digests and last letters, as rows show them.
+//! Last letters, as rows show them.
 ghost use Rattle.std.specs.Prelude.{◌≡◌, ◌<◌, ◌+◌, IfErr, IfOk, option_map};
 ghost use Rattle.sqlite.specs.Order.{bytes, column};
 ghost use Rattle.dip_store_sql.specs.RowFaults.{IsFromOutside};
-ghost use Rattle.dip_store_looks.specs.Readable.{HasDigest, IsKeptReadable};
+ghost use Rattle.dip_store_looks.specs.Readable.{IsKeptReadable};
 ghost use Rattle.dip_desk_state.specs.Rows as rows;
 ghost use Rattle.dip_store_sql.specs.Rows.{number_in};
 ghost use Rattle.dip_store_tables.specs.Reading.{kept_of};
 
-use crate::values::{bytes_at, number_at, text_at};
 use dip_desk_state::Kept;
-use dip_store_sql::RowFault;
+use dip_store_sql::{RowFault, digest_at, number_at, text_at};
 use dip_store_tables::read_kept;
 use sqlite::Row;
 use std::alloc::Global;
-
-/// The 32 bytes of a column.
-pub(crate) fn digest_in(row: &Row, at: usize) -> Result<[u8; 32], RowFault>
-    ensures value { IfOk result (λ d. d ≡ bytes (column row.now at)) }
-    ensures own { HasDigest row.now at → IfErr result (IsFromOutside ⊥) }
-{
-    let found = bytes_at(row, at)?;
-    match <[u8; 32]>::try_from(found.as_slice()) {
-        Ok(digest) => Ok(digest),
-        Err(_) => Err(RowFault::Misfit),
-    }
-}
 
 /// The last letter that the columns from a number on tell: its number, its sum and its reply.
 pub(crate) fn kept_in(alloc: Global, row: &Row, at: usize) -> Result<Option<Kept>, RowFault>
@@ -38,7 +25,7 @@ pub(crate) fn kept_in(alloc: Global, row: &Row, at: usize) -> Result<Option<Kept
     if last == 0 {
         return Ok(None);
     }
-    let sum = digest_in(row, at + 1)?;
+    let sum = digest_at(row, at + 1)?;
     let printed = text_at(row, at + 2)?;
     match read_kept(alloc, last, sum, printed.as_str())? {
         Some(kept) => Ok(kept),

@@ -9,12 +9,11 @@ mod letters;
 mod own;
 mod papers;
 mod public;
-mod values;
 mod whole;
 
 pub use desk::look_desk;
 pub use inbox::look_items;
-pub use own::look_own;
+pub use own::{look_digest, look_own};
 pub use papers::look_paper;
 pub use public::look_public;
 pub use whole::look_whole;

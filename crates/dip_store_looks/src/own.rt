@@ -16,12 +16,13 @@ ghost use Rattle.dip_store_tables.specs.Reading.{own_of, standing_of};
 ghost use Rattle.dip_store_tables.specs.Tables.{is_seat};
 ghost use Rattle.dip_store_tables.specs.Votes.{vote_in, vote_of};
 
-use crate::letters::{digest_in, kept_in};
-use crate::values::{number_at, text_at};
+use crate::letters::kept_in;
 use dip_desk_state::{Own, Standing, Vote};
 use dip_map::Map;
 use dip_names::Power;
-use dip_store_sql::{RowFault, find_ballot, find_seat, list_orders};
+use dip_store_sql::{
+    RowFault, digest_at, find_ballot, find_digest, find_seat, list_orders, number_at, text_at,
+};
 use dip_store_tables::read_vote;
 use sqlite::{Alter, Connection, Row};
 use std::alloc::Global;
@@ -136,7 +137,7 @@ pub(crate) fn own_in(
     let Beside { vote, orders } = beside;
     Ok(Own {
         power,
-        digest: digest_in(row, at)?,
+        digest: digest_at(row, at)?,
         vote,
         pending: standings_in(alloc, map, orders.as_slice())?,
         kept: kept_in(alloc, row, at + 2)?,
@@ -155,6 +156,32 @@ fn idle_own(alloc: Global, map: &Map, power: Power, row: &Row) -> Result<Own, Ro
         orders: Vec::new(alloc),
     };
     own_in(alloc, map, power, row, 0, beside)
+}
+
+/// The digest of a seat's secret; none where there is no such seat. Nothing else of the seat is read.
+///
+/// # Errors
+/// Want of memory, the database's own, or `Misfit` where the digest is none that a keeper writes.
+pub fn look_digest<S: Alter>(
+    conn: &mut Connection<S>,
+    map: &Map,
+    game: &str,
+    power: Power,
+) -> Result<Option<[u8; 32]>, RowFault>
+    requires { power < length map.now.realms }
+    ensures value { IsKept S.Store conn.old → is_honest S.Store conn.new → IfOk result (λ d.
+        d ≡ option_map (λ s. s.digest)
+        (find (is_seat game.now (power_name map.now power)) (tables_in S.Store conn.old).seats)) }
+    ensures selects { Selects S.Store conn.old conn.new result }
+    ensures own { IsKept S.Store conn.old → does_show S.Store conn.old → is_honest S.Store conn.new
+        → AreOurs map.now (tables_in S.Store conn.old)
+        → IfErr result (IsFromOutside (has_faulted S.Store conn.old conn.new)) }
+{
+    let Some(row) = find_digest(conn, game, map.power_name(power))? else {
+        return Ok(None);
+    };
+    let digest = digest_at(&row, 0)?;
+    Ok(Some(digest))
 }
 
 /// A seat's own part, all but the items of its inbox; none where there is no such seat. Where it is known that the seat votes for no

@@ -8,8 +8,7 @@ ghost use Rattle.dip_store_sql.specs.Causes.{has_faulted};
 ghost use Rattle.dip_store_sql.specs.Calls.{IsKept, Selects, does_show, is_honest, tables_in};
 ghost use Rattle.dip_store_sql.specs.Showing.{is_numbered};
 
-use crate::values::text_at;
-use dip_store_sql::{RowFault, find_paper};
+use dip_store_sql::{RowFault, find_paper, text_at};
 use sqlite::{Alter, Connection};
 
 /// The text of a game's paper by its number; none where there is no such game or paper.

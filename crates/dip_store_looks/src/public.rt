@@ -4,7 +4,8 @@ ghost use Rattle.std.specs.List.{find};
 ghost use Rattle.sqlite.specs.Order.{bytes, column};
 ghost use Rattle.dip_store_tables.specs.Columns.{IsStatusText};
 ghost use Rattle.dip_store_sql.specs.RowFaults.{IsFromOutside};
-ghost use Rattle.dip_store_looks.specs.Readable.{HasText, IsChoiceReadable, IsGameReadable};
+ghost use Rattle.dip_store_looks.specs.Readable.{IsChoiceReadable, IsGameReadable};
+ghost use Rattle.dip_store_sql.specs.Values.{HasText};
 ghost use Rattle.dip_store_looks.specs.Shown.{shown_intent, shown_public};
 ghost use Rattle.dip_store_tables.specs.Legible.{AreOurs};
 ghost use Rattle.dip_desk_state.specs.Rows as rows;
@@ -14,10 +15,11 @@ ghost use Rattle.dip_store_tables.specs.Reading.{public_of, status_of};
 ghost use Rattle.dip_store_tables.specs.Tables.{is_named};
 
 use crate::board::board_in;
-use crate::values::{number_at, text_at, tick_at};
 use dip_desk_state::{Public, Status};
 use dip_map::Map;
-use dip_store_sql::{RowFault, find_choice, find_game, list_centres, list_units};
+use dip_store_sql::{
+    RowFault, find_choice, find_game, list_centres, list_units, number_at, text_at, tick_at,
+};
 use dip_store_tables::read_status;
 use sqlite::{Alter, Connection, Row};
 use std::alloc::Global;

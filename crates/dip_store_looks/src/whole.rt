@@ -13,10 +13,9 @@ ghost use Rattle.dip_store_tables.specs.Tables.{is_named};
 
 use crate::own::{look_beside, own_in};
 use crate::public::look_public;
-use crate::values::text_at;
 use dip_desk_state::{Own, Whole};
 use dip_map::Map;
-use dip_store_sql::{RowFault, list_seats};
+use dip_store_sql::{RowFault, list_seats, text_at};
 use sqlite::{Alter, Connection, Row};
 use std::alloc::Global;
 

@@ -5,7 +5,7 @@ use Rattle.dip_store_tables.specs.Boards.{standoff_text}
 use Rattle.dip_map.specs.Boards.{season_number}
 use Rattle.dip_desk_state.specs.Records.{Public}
 use Rattle.dip_desk_state.specs.State.{NewSeat}
-use Rattle.dip_reports.specs.Texts.{status_text}
+use Rattle.dip_desk_state.specs.Texts.{status_text}
 use Rattle.dip_store_tables.specs.Changing.{opening, publishing}
 use Rattle.dip_store_tables.specs.Tables.{GameRow, Tables}
 use Rattle.dip_store_tables.specs.Writing.{game_row, number_of, paper_row, seat_row}

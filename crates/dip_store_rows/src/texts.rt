@@ -2,12 +2,11 @@
 ghost use Rattle.std.specs.Prelude.{◌≡◌, ◌≤◌, ◌++◌, IfOk, OnOk, codes, drop, flat_map, length, string_bytes};
 ghost use Rattle.dip_store_tables.specs.Boards.{code, standoff_text};
 ghost use Rattle.dip_desk_state.specs.Rows as records;
-ghost use Rattle.dip_reports.specs.Texts.{status_text};
+ghost use Rattle.dip_desk_state.specs.Texts.{status_text};
 
-use dip_desk_state::Status;
+use dip_desk_state::{Status, push_status};
 use dip_map::Map;
 use dip_names::Prov;
-use dip_reports::push_status;
 use std::alloc::{AllocError, Global};
 
 pub(crate) fn status_text(alloc: Global, map: &Map, status: &Status) -> Result<String, AllocError>

@@ -66,18 +66,6 @@ desk_caused fault rows.Memory own is = absurd (let x : Memory ≡ Disk = is in c
 desk_caused fault (rows.Sql e) own is = row_caused fault e own is
 desk_caused fault rows.Misfit own is = absurd own
 
--- an error of reading a column is none of the disk
-unblamed : (at : ℕ) (v : Value) (e : Error) → IsReadError at v e → IsBlamed ⊥ e
-unblamed at v e (inl is) out = absurd (let x : false ≡ true = sym (ap is_outage is) ∙ out in cc)
-unblamed at v e (inr (inl is)) out = absurd (let x : false ≡ true = sym (ap is_outage is) ∙ out in cc)
-unblamed at v e (inr (inr (inl is))) out = absurd (let x : false ≡ true = sym (ap is_outage is) ∙ out in cc)
-unblamed at v e (inr (inr (inr (inl is)))) out = absurd (let x : false ≡ true = sym (ap is_outage is) ∙ out in cc)
-unblamed at v e (inr (inr (inr (inr is)))) out = absurd (let x : false ≡ true = sym (ap is_outage is) ∙ out in cc)
-
-pub read_unblamed : {X : Type 0} (r : Result X Error) (at : ℕ) (v : Value) → IfErr r (IsReadError at v) → IfErr r (IsBlamed ⊥)
-read_unblamed (Ok x) at v named = tt
-read_unblamed (Err e) at v named = unblamed at v e named
-
 pub look_blamed_more : (fault : Type 0) (e : RowFault) → BlamesFor ⊥ e → BlamesFor fault e
 look_blamed_more fault rows.Memory blamed = tt
 look_blamed_more fault (rows.Sql e) blamed = λ out. absurd (blamed out)

@@ -12,8 +12,8 @@ use Rattle.dip_store_tables.proofs.MapTexts.{power_text}
 use Rattle.dip_store_tables.specs.Coding.{AreApart, HasGame, IsSeatOf, same_seat}
 use Rattle.dip_store_tables.specs.Legible.{IsText}
 use Rattle.dip_store_tables.specs.Tables.{BallotRow, GameRow, SeatRow, Tables, is_named}
-use Rattle.dip_store_looks.specs.Readable.{HasText}
-use Rattle.dip_store_looks.proofs.RowLemmas.{has_text}
+use Rattle.dip_store_sql.specs.Values.{HasText}
+use Rattle.dip_store_sql.proofs.Typed.{has_text}
 use Rattle.dip_store_sql.specs.Good.{IsGood}
 use Rattle.dip_store_sql.specs.Rows.{tables_of}
 use Rattle.dip_store_sql.specs.Showing.{show_name, show_vote}

@@ -12,7 +12,7 @@ use Rattle.dip_map.specs.Charts.{Chart}
 use Rattle.dip_desk_state.specs.State.{State as Content}
 use Rattle.dip_store_tables.specs.Counting.{AreCounted}
 use Rattle.dip_store_tables.specs.Tables.{BallotRow, ChoiceRow, Tables}
-use Rattle.dip_store_looks.specs.Readable.{HasText}
+use Rattle.dip_store_sql.specs.Values.{HasText}
 use Rattle.dip_store_sql.specs.TablesAfter.{more_ballots, on_desk, on_seats}
 use Rattle.dip_store_sql.specs.Rows.{number_in, put_ballot, put_choice}
 use Rattle.dip_store_sql.specs.Schema.{ballot_table, choice_table, desk_table, seat_table}

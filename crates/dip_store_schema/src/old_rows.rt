@@ -1,17 +1,13 @@
 //! What is read of tables of version 1 before they are made into those of version 2.
-ghost use Rattle.std.specs.Prelude.{◌≡◌, ◌==◌, ◌⊎◌, not, IfErr, IfOk, map as each, string_bytes};
+ghost use Rattle.std.specs.Prelude.{◌≡◌, ◌==◌, ◌⊎◌, not, IfErr, IfOk, map as each};
 ghost use Rattle.std.specs.List.{AllByRecursion};
-ghost use Rattle.sqlite.specs.declared.types.Value.TheVariants.{Text as Words};
-ghost use Rattle.sqlite.specs.Order.{column};
 ghost use Rattle.dip_desk_state.specs.Rows.{lines};
 ghost use Rattle.dip_store_sql.specs.RowFaults.{IsFromOutside};
-ghost use Rattle.dip_store_looks.specs.Readable.{HasText};
-ghost use Rattle.dip_store_sql.specs.Causes.{IsCaused};
+ghost use Rattle.dip_store_sql.specs.Values.{HasText};
 ghost use Rattle.dip_store_schema.specs.Renewing.{IsVoteReadable, shown_ballot, shown_name};
 
-use crate::desk_row::number_at;
-use dip_store_sql::RowFault;
-use sqlite::{Error, Row};
+use dip_store_sql::{RowFault, number_at, text_at};
+use sqlite::Row;
 use std::alloc::Global;
 use std::marker::Model;
 
@@ -30,13 +26,6 @@ impl Model for NewBallot {
     ghost Value = { BallotRow };
 
     ghost view = { λ b. record { game = string_bytes b.game; power = string_bytes b.power; names = if b.draws then codes "YES" else codes "NO" } };
-}
-
-fn text_at(row: &Row, at: usize) -> Result<String, Error>
-    ensures value { IfOk result (λ t. column row.now at ≡ Words (string_bytes t)) }
-    ensures own { HasText row.now at → IfErr result (IsCaused ⊥) }
-{
-    row.get(at)
 }
 
 /// The names of games, each in a row.

@@ -3,7 +3,7 @@ use Rattle.std.proofs.Common.{ℕ, pos, List, [], ◌∷◌, refl}
 use Rattle.sqlite.specs.declared.types.Value.TheVariants.{Int, Text}
 use Rattle.dip_store_sql.specs.Asking.{Accepts, AcceptsIn}
 use Rattle.dip_store_sql.specs.Old.{old_schema}
-use Rattle.dip_store_sql.specs.Statements.{find_desk_query, find_game_query, find_seat_query, find_item_query, find_paper_query, list_seats_query, list_units_query, list_centres_query, list_orders_query, find_ballot_query, find_choice_query, list_games_query, list_votes_query}
+use Rattle.dip_store_sql.specs.Statements.{find_desk_query, find_game_query, find_seat_query, find_digest_query, find_item_query, find_paper_query, list_seats_query, list_units_query, list_centres_query, list_orders_query, find_ballot_query, find_choice_query, list_games_query, list_votes_query}
 
 pub find_desk : Accepts find_desk_query []
 find_desk = refl
@@ -13,6 +13,9 @@ find_game name = refl
 
 pub find_seat : (game : List ℕ) (power : List ℕ) → Accepts find_seat_query (Text game ∷ Text power ∷ [])
 find_seat game power = refl
+
+pub find_digest : (game : List ℕ) (power : List ℕ) → Accepts find_digest_query (Text game ∷ Text power ∷ [])
+find_digest game power = refl
 
 pub find_item : (game : List ℕ) (power : List ℕ) (number : ℕ) → Accepts find_item_query (Text game ∷ Text power ∷ Int (pos number) ∷ [])
 find_item game power number = refl

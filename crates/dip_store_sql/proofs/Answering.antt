@@ -11,7 +11,7 @@ use Rattle.dip_store_tables.specs.Tables.{is_ballot, is_choice_in, is_named, is_
 use Rattle.dip_store_sql.specs.Rows.{tables_of, put_desk, take_desk, put_game, take_game, put_seat, take_seat, put_unit, take_unit, put_centre, take_centre, put_pending, take_pending, put_box, take_box, put_paper, take_paper, put_ballot, take_ballot, put_choice, take_choice}
 use Rattle.dip_store_sql.specs.Good.{IsGood}
 use Rattle.dip_store_sql.specs.Old.{WasGood, old_tables_of}
-use Rattle.dip_store_sql.specs.Showing.{show_desk, show_game, show_seat, show_item, show_paper, show_listed, show_unit, show_centre, show_order, show_ballot, show_choice, show_name, show_vote, is_item, is_numbered}
+use Rattle.dip_store_sql.specs.Showing.{show_desk, show_game, show_seat, show_digest, show_item, show_paper, show_listed, show_unit, show_centre, show_order, show_ballot, show_choice, show_name, show_vote, is_item, is_numbered}
 use Rattle.dip_store_sql.specs.TablesAfter.{is_first}
 use Rattle.dip_store_sql.proofs.Apart.{one_ballot, one_choice, one_desk, one_old_desk, one_game, one_seat, one_item, one_paper}
 use Rattle.dip_store_sql.proofs.Telling.{tells_ballot, tells_choice_in, tells_desk, tells_game_in, tells_seat_in, tells_unit_in, tells_centre_in, tells_seat, tells_pending, tells_item, tells_paper}
@@ -37,6 +37,11 @@ module _ (old new : State) (good : IsGood old.now) where
   find_seat game power rows h =
       one_found put_seat take_seat 4 by_two text.find_seat_shown (Words game ∷ Words power ∷ []) (is_seat game power) show_seat (tells_seat game power []) (λ v a. refl) text.find_seat_text 2 _ old new good.schema refl good.seats
       means.find_seat (one_seat old.now good game power) rows h
+
+  pub find_digest : (game : List ℕ) (power : List ℕ) (rows : List Row) → Shown text.find_digest_text (Words game ∷ Words power ∷ []) old new rows → rows ≡ option_to_list (option_map show_digest (find (is_seat game power) (tables_of old.now.trees).seats))
+  find_digest game power rows h =
+      one_found put_seat take_seat 4 by_two text.find_digest_shown (Words game ∷ Words power ∷ []) (is_seat game power) show_digest (tells_seat game power []) (λ v a. refl) text.find_digest_text 2 _ old new good.schema refl good.seats
+      means.find_digest (one_seat old.now good game power) rows h
 
   pub find_item : (game : List ℕ) (power : List ℕ) (number : ℕ) (rows : List Row) → Shown text.find_item_text (Words game ∷ Words power ∷ Int (pos number) ∷ []) old new rows → rows ≡ option_to_list (option_map show_item (find (is_item game power number) (tables_of old.now.trees).boxes))
   find_item game power number rows h =

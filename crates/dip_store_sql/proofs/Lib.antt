@@ -50,3 +50,4 @@ pub mod Wants
 pub mod Told
 pub mod Flags
 pub mod Answering
+pub mod Typed

@@ -8,7 +8,7 @@ use Rattle.sqlite.specs.Listing.{understood}
 use Rattle.dip_store_sql.specs.Queries.{plain_query}
 use Rattle.dip_store_sql.specs.Old.{old_schema}
 use Rattle.dip_store_sql.specs.Asking.{Means, Asks, AsksIn, by_one, by_two, by_first}
-use Rattle.dip_store_sql.specs.Statements.{add_desk_text, add_game_text, add_seat_text, add_unit_text, add_centre_text, add_pending_text, add_three_pending_text, add_item_text, add_paper_text, add_ballot_text, add_choice_text, drop_seats_text, drop_units_text, drop_centres_text, drop_pending_text, drop_orders_text, drop_items_text, drop_papers_text, drop_ballots_text, drop_choices_text, note_desk_text, renew_seat_text, note_ballot_text, clear_votes_text, set_version_text, count_item_text, replace_digest_text, renew_game_text, find_desk_text, find_game_text, find_seat_text, find_item_text, find_paper_text, find_ballot_text, find_choice_text, list_seats_text, list_units_text, list_centres_text, list_orders_text, list_games_text, list_votes_text, add_desk_values, add_game_values, add_seat_values, add_unit_values, add_centre_values, add_pending_values, add_three_pending_values, add_item_values, add_paper_values, add_ballot_values, add_choice_values, note_desk_row, renew_seat_row, note_ballot_row, clear_votes_row, set_version_row, count_item_row, replace_digest_row, renew_game_row, find_desk_query, find_game_query, find_seat_query, find_item_query, find_paper_query, find_ballot_query, find_choice_query, list_seats_query, list_units_query, list_centres_query, list_orders_query, list_games_query, list_votes_query}
+use Rattle.dip_store_sql.specs.Statements.{add_desk_text, add_game_text, add_seat_text, add_unit_text, add_centre_text, add_pending_text, add_three_pending_text, add_item_text, add_paper_text, add_ballot_text, add_choice_text, drop_seats_text, drop_units_text, drop_centres_text, drop_pending_text, drop_orders_text, drop_items_text, drop_papers_text, drop_ballots_text, drop_choices_text, note_desk_text, renew_seat_text, note_ballot_text, clear_votes_text, set_version_text, count_item_text, replace_digest_text, renew_game_text, find_desk_text, find_game_text, find_seat_text, find_digest_text, find_item_text, find_paper_text, find_ballot_text, find_choice_text, list_seats_text, list_units_text, list_centres_text, list_orders_text, list_games_text, list_votes_text, add_desk_values, add_game_values, add_seat_values, add_unit_values, add_centre_values, add_pending_values, add_three_pending_values, add_item_values, add_paper_values, add_ballot_values, add_choice_values, note_desk_row, renew_seat_row, note_ballot_row, clear_votes_row, set_version_row, count_item_row, replace_digest_row, renew_game_row, find_desk_query, find_game_query, find_seat_query, find_digest_query, find_item_query, find_paper_query, find_ballot_query, find_choice_query, list_seats_query, list_units_query, list_centres_query, list_orders_query, list_games_query, list_votes_query}
 
 pub add_desk : Means add_desk_text (Insert 0 (Values add_desk_values 8))
 unfolding understood everything
@@ -133,6 +133,10 @@ find_game = record { means = (refl, (refl, refl)); unlisted = refl; asked = (ref
 pub find_seat : Asks find_seat_text 2 find_seat_query (codes "digest" ∷ codes "vote" ∷ codes "last" ∷ codes "kept" ∷ codes "reply" ∷ codes "sent" ∷ codes "items" ∷ [])
 unfolding understood everything
 find_seat = record { means = (refl, (refl, refl)); unlisted = refl; asked = (refl, refl) }
+
+pub find_digest : Asks find_digest_text 2 find_digest_query (codes "digest" ∷ [])
+unfolding understood everything
+find_digest = record { means = (refl, (refl, refl)); unlisted = refl; asked = (refl, refl) }
 
 pub find_ballot : Asks find_ballot_text 2 find_ballot_query (codes "names" ∷ [])
 unfolding understood everything

@@ -20,6 +20,7 @@ pub mod Refusals
 pub mod Transactions
 pub mod Storing
 pub mod RowViews
+pub mod Values
 pub use Rattle.sqlite_resolve.specs.declared.compiled.Compiled
 pub use Rattle.sqlite_resolve.specs.declared.error.CompileError
 pub use Rattle.sqlite_tied.specs.Compute

@@ -20,6 +20,9 @@ show_seat s =
     Bytes s.digest ∷ Int (pos s.vote) ∷ Int (pos s.last) ∷ Bytes s.kept ∷ Words s.reply ∷
     Int (pos s.sent) ∷ Int (pos s.items) ∷ []
 
+abbrev pub show_digest : SeatRow → Row
+show_digest s = Bytes s.digest ∷ []
+
 abbrev pub show_item : BoxRow → Row
 show_item b = Int (pos b.grey) ∷ Words b.writer ∷ Words b.addressees ∷ Words b.body ∷ []
 

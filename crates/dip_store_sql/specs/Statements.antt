@@ -228,6 +228,16 @@ find_seat_shown = col 1 3 ∷ col 1 4 ∷ col 1 5 ∷ col 1 6 ∷ col 1 7 ∷ co
 abbrev pub find_seat_query : Query
 find_seat_query = plain_query 4 by_two find_seat_shown []
 
+abbrev pub find_digest_text : List ℕ
+find_digest_text =
+    codes "SELECT digest FROM seat WHERE game = ?1 AND power = ?2"
+
+abbrev pub find_digest_shown : List Term
+find_digest_shown = col 1 3 ∷ []
+
+abbrev pub find_digest_query : Query
+find_digest_query = plain_query 4 by_two find_digest_shown []
+
 abbrev pub find_ballot_text : List ℕ
 find_ballot_text =
     codes "SELECT names FROM ballot WHERE game = ?1 AND power = ?2"

@@ -10,6 +10,7 @@ mod only;
 mod row_faults;
 mod rows;
 mod ticks;
+mod values;
 
 pub use adding::{
     add_ballot, add_centre, add_choice, add_desk, add_game, add_item, add_paper, add_pending,
@@ -21,7 +22,7 @@ pub use dropping::{
 };
 pub use listings::{list_centres, list_games, list_orders, list_seats, list_units, list_votes};
 pub use lookups::{
-    find_ballot, find_choice, find_desk, find_game, find_item, find_paper, find_seat,
+    find_ballot, find_choice, find_desk, find_digest, find_game, find_item, find_paper, find_seat,
 };
 pub use noting::{
     clear_votes, count_item, note_ballot, note_desk, renew_game, renew_seat, replace_digest,
@@ -29,3 +30,4 @@ pub use noting::{
 };
 pub use row_faults::RowFault;
 pub use rows::{GameRow, ItemRow, LastLetter, OrderRow, SeatRow, UnitRow};
+pub use values::{digest_at, number_at, text_at, tick_at};

@@ -5,7 +5,7 @@ ghost use Rattle.dip_store_tables.specs.Tables.{is_ballot, is_choice_in, is_name
 ghost use Rattle.dip_store_sql.specs.Calls.{FindsRow, IsKept, Selects, WasKept, does_show, is_honest, old_tables_in, tables_in};
 ghost use Rattle.dip_store_sql.specs.Causes.{IsCaused, has_faulted};
 ghost use Rattle.dip_store_sql.specs.Refusals.{IsBlamed};
-ghost use Rattle.dip_store_sql.specs.Showing.{is_item, is_numbered, show_ballot, show_choice, show_desk, show_game, show_item, show_paper, show_seat};
+ghost use Rattle.dip_store_sql.specs.Showing.{is_item, is_numbered, show_ballot, show_choice, show_desk, show_digest, show_game, show_item, show_paper, show_seat};
 ghost use Rattle.dip_store_sql.specs.TablesAfter.{is_first};
 
 use crate::only::only;
@@ -66,6 +66,29 @@ pub fn find_seat<S: Alter>(
 {
     match conn.query_all(
         "SELECT digest, vote, last, kept, reply, sent, items FROM seat WHERE game = ?1 AND power = ?2",
+        params![game, power],
+    ) {
+        Ok(rows) => Ok(only(rows)),
+        Err(error) => Err(error),
+    }
+}
+
+/// The digest of a seat's secret.
+pub fn find_digest<S: Alter>(
+    conn: &mut Connection<S>,
+    game: &str,
+    power: &str,
+) -> Result<Option<Row>, Error>
+    ensures value { IsKept S.Store conn.old → is_honest S.Store conn.new → IfOk result (λ o. o
+        ≡ option_map show_digest
+        (find (is_seat game.now power.now) (tables_in S.Store conn.old).seats)) }
+    ensures selects { Selects S.Store conn.old conn.new result }
+    ensures caused { IsKept S.Store conn.old → does_show S.Store conn.old
+        → is_honest S.Store conn.new
+        → IfErr result (IsCaused (has_faulted S.Store conn.old conn.new)) }
+{
+    match conn.query_all(
+        "SELECT digest FROM seat WHERE game = ?1 AND power = ?2",
         params![game, power],
     ) {
         Ok(rows) => Ok(only(rows)),

@@ -8,7 +8,7 @@ use Rattle.dip_store_tables.specs.Boards.{code, origin_text, power_name, standof
 use Rattle.dip_map.specs.Charts.{Chart, IsMap, is_code, is_power_name}
 use Rattle.dip_desk_state.specs.Writable.{IsStatusOf}
 use Rattle.dip_desk_state.specs.Records.{Status, Running, Paused, Closed, Ended, Won, Drawn}
-use Rattle.dip_reports.specs.Texts.{status_text}
+use Rattle.dip_desk_state.specs.Texts.{status_text}
 use Rattle.dip_store_tables.specs.Legible.{IsText}
 use Rattle.dip_store_tables.proofs.Spelled.{both, each, letters, none, plain}
 

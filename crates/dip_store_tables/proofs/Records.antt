@@ -6,7 +6,7 @@ use Rattle.std.specs.Char.{is_ascii_lowercase}
 use Rattle.dip_map.specs.Charts.{Chart, IsMap, is_power_name}
 use Rattle.dip_store_tables.specs.Boards.{power_name, power_in, or_zero}
 use Rattle.dip_desk_state.specs.Records.{Item, White, Grey, Status, Running, Paused, Closed, Ended, Won, Drawn}
-use Rattle.dip_reports.specs.Texts.{status_text}
+use Rattle.dip_desk_state.specs.Texts.{status_text}
 use Rattle.dip_store_tables.specs.Texts.{joined}
 use Rattle.dip_desk_state.specs.Writable.{Lacks, IsWord, IsStatusOf, IsPlainItem}
 use Rattle.dip_store_tables.specs.Reading.{status_of, status_from, item_of}

@@ -5,7 +5,7 @@ use Rattle.dip_map.specs.Charts.{Chart}
 use Rattle.dip_store_tables.specs.Boards.{power_name}
 use Rattle.dip_desk_state.specs.Writable.{Lacks, IsStatusOf}
 use Rattle.dip_desk_state.specs.Records.{Status, Running, Paused, Closed, Ended, Won, Drawn}
-use Rattle.dip_reports.specs.Texts.{status_text}
+use Rattle.dip_desk_state.specs.Texts.{status_text}
 
 -- the words of a status of the map
 abbrev pub IsStatusText : Chart → List ℕ → Type 0

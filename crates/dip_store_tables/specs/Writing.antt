@@ -5,7 +5,7 @@ use Rattle.dip_store_tables.specs.Boards.{code, power_name, standoff_text}
 use Rattle.dip_map.specs.Boards.{season_number}
 use Rattle.dip_desk_state.specs.declared.records.Outcome.TheVariants.{Done}
 use Rattle.dip_desk_state.specs.Records.{Public, Item, White, Grey, Kept, Standing, Vote}
-use Rattle.dip_reports.specs.Texts.{reply_text, status_text}
+use Rattle.dip_desk_state.specs.Texts.{reply_text, status_text}
 use Rattle.dip_desk_state.specs.State.{NewSeat, Effect, Nothing, Pending, Votes, Delivers, Opens, Publishes, Seats}
 use Rattle.dip_store_tables.specs.Tables.{DeskRow, GameRow, SeatRow, PendingRow, BoxRow, PaperRow, BallotRow, ChoiceRow, Tables}
 use Rattle.dip_store_tables.specs.Texts.{joined, ended}

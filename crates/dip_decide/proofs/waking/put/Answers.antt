@@ -22,8 +22,8 @@ returns-in_ok-put_past-in-Path c =
     let e = c.args.e.now in
     taken_put (situation_of t) (known_of c.args.values.now) e (past_path t (target_of (entry t.rows.items c.in-Path.w))) _ _ (λ d m. rw c.in-Path.is at (all_woken t c.requires.situation d e m)) (rw c.target-in-Path.ensures at c.in_ok-put_past-in-Path.ensures)
 
-pub returns-in_ok-put_round-in-Support : goal.returns-in_ok-put_round-in-Support
-returns-in_ok-put_round-in-Support c =
+pub returns-in_ok-put_past_support-in-Support : goal.returns-in_ok-put_past_support-in-Support
+returns-in_ok-put_past_support-in-Support c =
     let t = c.args.table.now in
     let e = c.args.e.now in
-    taken_put (situation_of t) (known_of c.args.values.now) e (past_support t (backed_of (entry t.rows.items) (entry t.rows.items c.in-Support.h))) _ _ (λ d m. rw c.in-Support.is at (all_woken t c.requires.situation d e m)) (rw c.backed.ensures at c.in_ok-put_round-in-Support.ensures)
+    taken_put (situation_of t) (known_of c.args.values.now) e (past_support t (backed_of (entry t.rows.items) (entry t.rows.items c.in-Support.h))) _ _ (λ d m. rw c.in-Support.is at (all_woken t c.requires.situation d e m)) (rw c.backed.ensures at c.in_ok-put_past_support-in-Support.ensures)

@@ -1,7 +1,7 @@
 use Rattle.std.proofs.Common.{None, false, ap, inl, inr, refl}
 use Rattle.dip_desk_state.specs.Records.{Reply}
 use Rattle.dip_desk_state.specs.Rows as rows
-use Rattle.dip_reports.specs.Texts.{reply_text}
+use Rattle.dip_desk_state.specs.Texts.{reply_text}
 use Rattle.dip_desk_machine.specs.Mail.{mail}
 use Rattle.dip_http_messages.specs.Answers.{answer_bytes, plain}
 use Rattle.dip_http.specs.Answering.{status_of}

@@ -3,7 +3,7 @@ use Rattle.std.proofs.lemmas.Option.{IfSome_then}
 use Rattle.std.proofs.lemmas.Result.{IfErr-weaker}
 use Rattle.sqlite.specs.Files.{over_files}
 use Rattle.sqlite.specs.WalFiles.{image_at}
-use Rattle.dip_map.specs.declared.standard.TheConstants.{STANDARD}
+use Rattle.dip_map_text.specs.declared.standard.TheConstants.{STANDARD}
 use Rattle.dip_judge_commands.specs.Files.{StopsStore}
 use Rattle.dip_judge_commands.proofs.FileLemmas.{failed_as, if_asked, map_named_so}
 use Rattle.dip_judge_commands.proofs.asked.do_as_asked.Goals as goal

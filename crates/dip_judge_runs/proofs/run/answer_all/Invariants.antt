@@ -3,7 +3,7 @@ use Rattle.std.specs.List.{flat_map}
 use Rattle.std.specs.Io.KnownBytes.{Appends}
 use Rattle.dip_desk_keeper.specs.Keeping.{IsOpen}
 use Rattle.dip_desk_machine.specs.Lawful.{IsLawful}
-use Rattle.dip_reports.specs.Texts.{reply_text}
+use Rattle.dip_desk_state.specs.Texts.{reply_text}
 use Rattle.dip_desk_state.specs.Records.{Reply}
 use Rattle.dip_judge_runs.specs.Runs.{AnswersFront}
 use Rattle.dip_judge_runs.proofs.run.answer_all.Given as goal

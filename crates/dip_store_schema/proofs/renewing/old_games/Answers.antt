@@ -1,6 +1,6 @@
 use Rattle.std.proofs.Common.{◌≡◌, map, sym, subst, ◌∙◌}
 use Rattle.std.specs.List.{AllByRecursion}
-use Rattle.dip_store_looks.specs.Readable.{HasText}
+use Rattle.dip_store_sql.specs.Values.{HasText}
 use Rattle.dip_store_sql.specs.Calls.{old_tables_in}
 use Rattle.dip_store_sql.specs.Showing.{show_name}
 use Rattle.dip_store_tables.proofs.KeptLines.{ok_as}

@@ -1,9 +1,0 @@
-use Rattle.dip_store_looks.proofs.Typed.{reads}
-use Rattle.dip_store_schema.proofs.Refused.{read_unblamed}
-use Rattle.dip_store_schema.proofs.desk_row.number_at.Goals as goal
-
-pub returns-clause-own : goal.returns-clause-own
-returns-clause-own c n there is low = reads c.get.result c.args.row.now c.args.at _ c.get.ensures.named c.get.ensures.kind there (n, is, low)
-
-pub returns-clause-blames : goal.returns-clause-blames
-returns-clause-blames c = read_unblamed c.get.result c.args.at _ c.get.ensures.named

@@ -14,7 +14,6 @@ pub keeps_then : {K X Y : Type 0} (m : Chart) (b : Book K) (old mid new : K) (x 
 keeps_then m b old mid new x result first second = record {
   count = second.count ∙ ap (faults_after result) first.count;
   told = omega (arith, first.told, second.told);
-  of_size = omega (arith, first.of_size, second.of_size);
   fair = λ honest. first.fair (second.fair honest);
   same_map = second.same_map ∙ first.same_map;
   shown = λ shows. first.shown (second.shown shows);
@@ -34,9 +33,8 @@ keeps_then m b old mid new x result first second = record {
 }
 
 -- what a store told after a call it told after what came before too
-pub told_late : {K : Type 0} (b : Book K) (first old new : K) → b.told first ≤ b.told old → b.of_size first ≤ b.of_size old → WasTold b old new → WasTold b first new
-told_late b first old new counts sizes (inl rises) = inl (omega (arith, counts, rises))
-told_late b first old new counts sizes (inr rises) = inr (omega (arith, sizes, rises))
+pub told_late : {K : Type 0} (b : Book K) (first old new : K) → b.told first ≤ b.told old → WasTold b old new → WasTold b first new
+told_late b first old new counts rises = omega (arith, counts, rises)
 
 -- after a look a crash leaves what it might have left
 pub look_alone : {K X : Type 0} (m : Chart) (b : Book K) (old new : K) (Value : X → Type 0) (Damage : Type 0) (result : Result X KeepFault)
@@ -68,7 +66,7 @@ steps_then {K} {X} {Y} {R} m b old mid new x Value Damage say Near Far result lo
       blamed (look.value sound open_mid) (subst Hurt (look.same sound open_mid) (step.damaged (look.keeps.firm sound fair) honest open_mid bad));
   failed = λ sound honest shows bad.
       let fair = step.keeps.fair honest in
-      told_late b old mid new look.keeps.told look.keeps.of_size (step.failed (look.keeps.firm sound fair) honest (look.keeps.stays_open sound fair shows) bad);
+      told_late b old mid new look.keeps.told (step.failed (look.keeps.firm sound fair) honest (look.keeps.stays_open sound fair shows) bad);
   settles = λ sound honest shows alone.
       let before = step.keeps.shown shows in
       step.settles (look.keeps.sound sound before) honest shows (look_alone m b old mid Value Damage (Ok x) look sound (step.keeps.fair honest) before alone);
@@ -96,11 +94,11 @@ steps_then {K} {X} {Y} {R} m b old mid new x Value Damage say Near Far result lo
 pub fault_then : {K X Y R : Type 0} (m : Chart) (b : Book K) (old new : K) (Value : X → Type 0) (Damage : Type 0) (fault : KeepFault) (say : Y → R) (Step : State → R → State → Type 0)
     (Blame : State → Type 0) → Looks m b old new Value Damage (Err fault) → (Damage → Blame (b.content m old)) → Steps {X = Y} m b old new say Step Blame (Err fault)
 fault_then m b old new Value Damage fault say Step Blame look blamed = record {
-  keeps = record { count = look.keeps.count; told = look.keeps.told; of_size = look.keeps.of_size; fair = look.keeps.fair; same_map = look.keeps.same_map; shown = look.keeps.shown; sound = look.keeps.sound; firm = λ sound honest. tt; stays_open = λ sound honest shows. tt; shuts = look.keeps.shuts; again = look.keeps.again };
+  keeps = record { count = look.keeps.count; told = look.keeps.told; fair = look.keeps.fair; same_map = look.keeps.same_map; shown = look.keeps.shown; sound = look.keeps.sound; firm = λ sound honest. tt; stays_open = λ sound honest shows. tt; shuts = look.keeps.shuts; again = look.keeps.again };
   done = λ sound shows. tt;
   undone = look.same;
   damaged = λ sound honest shows bad. let told : fault ≡ Damaged = cc in blamed (look.damaged sound honest shows (ap (λ (f : KeepFault). Err f) told));
-  failed = λ sound honest shows bad. let told : fault ≡ Disk = cc in inl (look.failed sound honest shows (ap (λ (f : KeepFault). Err f) told));
+  failed = λ sound honest shows bad. let told : fault ≡ Disk = cc in look.failed sound honest shows (ap (λ (f : KeepFault). Err f) told);
   settles = look_alone m b old new Value Damage (Err fault) look;
   kept = λ sound honest shows. tt;
   left = λ sound honest shows s left. inl (look.left sound honest s left);
@@ -108,7 +106,7 @@ fault_then m b old new Value Damage fault say Step Blame look blamed = record {
 
 -- what is kept by an answer says nothing of its value
 pub keeps_as : {K X Y : Type 0} (m : Chart) (b : Book K) (old new : K) (x : X) (y : Y) → Keeps {X = X} m b old new (Ok x) → Keeps {X = Y} m b old new (Ok y)
-keeps_as m b old new x y k = record { count = k.count; told = k.told; of_size = k.of_size; fair = k.fair; same_map = k.same_map; shown = k.shown; sound = k.sound; firm = k.firm; stays_open = k.stays_open; shuts = k.shuts; again = k.again }
+keeps_as m b old new x y k = record { count = k.count; told = k.told; fair = k.fair; same_map = k.same_map; shown = k.shown; sound = k.sound; firm = k.firm; stays_open = k.stays_open; shuts = k.shuts; again = k.again }
 
 -- a change that a fault leaves unmade is a step that isn't taken: a crash may leave what the step would have, and what doesn't fit may
 -- be Damaged
@@ -117,7 +115,7 @@ pub unmade : {K X R : Type 0} (m : Chart) (b : Book K) (old new : K) (change : S
     → ((s : State) → s ≡ change (b.content m old) → (r : R) × Step (b.content m old) r s) → ((s : State) → Suits s → Fits s)
     → Steps {X = X} m b old new say Step (λ s. Suits s → ⊥) (Err fault)
 unmade m b old new change Fits fault say Step Suits h taken fit = record {
-  keeps = record { count = h.keeps.count; told = h.keeps.told; of_size = h.keeps.of_size; fair = h.keeps.fair; same_map = h.keeps.same_map; shown = h.keeps.shown; sound = h.keeps.sound; firm = λ sound honest. tt; stays_open = λ sound honest shows. tt; shuts = h.keeps.shuts; again = h.keeps.again };
+  keeps = record { count = h.keeps.count; told = h.keeps.told; fair = h.keeps.fair; same_map = h.keeps.same_map; shown = h.keeps.shown; sound = h.keeps.sound; firm = λ sound honest. tt; stays_open = λ sound honest shows. tt; shuts = h.keeps.shuts; again = h.keeps.again };
   done = λ sound shows. tt;
   undone = h.undone;
   damaged = λ sound honest shows bad suits. let told : fault ≡ Damaged = cc in h.fitting sound honest shows (fit (b.content m old) suits) (ap (λ (f : KeepFault). Err f) told);

@@ -20,8 +20,6 @@ pub record Book (K : Type 0) : Type 1 where
   pub faults : K → ℕ
   -- and how many its store has told it of
   pub told : K → ℕ
-  -- how many faults of size its store has told it of: a row that is too long to be stored, or no number left for one
-  pub of_size : K → ℕ
   -- the disk has returned what was written, so far
   pub honest : K → Type 0
   -- it is honest and not shut, so that its content is what is kept
@@ -29,13 +27,9 @@ pub record Book (K : Type 0) : Type 1 where
   -- what is kept are records that a keeper wrote by this map, and no change is under way
   pub sound : Chart → K → Type 0
 
--- a count that rose, where it was not at its greatest
-abbrev pub Rises : ℕ → ℕ → Type 0
-Rises old new = next_count old ≤ new
-
--- between these two its store told of a fault: of the disk, or of size
+-- between these two its store told of a fault of the disk: that count rose, where it was not at its greatest
 abbrev pub WasTold : {K : Type 0} → Book K → K → K → Type 0
-WasTold b old new = Rises (b.told old) (b.told new) ⊎ Rises (b.of_size old) (b.of_size new)
+WasTold b old new = next_count (b.told old) ≤ b.told new
 
 -- a crash leaves what is kept, and nothing else
 abbrev pub LeavesAlone : {K : Type 0} → Chart → Book K → K → Type 0
@@ -45,7 +39,6 @@ LeavesAlone m b k = (s : State) → b.may_leave m k s → s ≡ b.content m k
 pub record Keeps {K X : Type 0} (m : Chart) (b : Book K) (old new : K) (result : Result X KeepFault) : Type 0 where
   pub count : b.faults new ≡ faults_after result (b.faults old)
   pub told : b.told old ≤ b.told new
-  pub of_size : b.of_size old ≤ b.of_size new
   pub fair : b.honest new → b.honest old
   pub same_map : b.map_sum new ≡ b.map_sum old
   pub shown : b.shows new → b.shows old
@@ -53,7 +46,7 @@ pub record Keeps {K X : Type 0} (m : Chart) (b : Book K) (old new : K) (result :
   pub firm : b.sound m old → b.honest new → OnOk result (b.sound m new)
   pub stays_open : b.sound m old → b.honest new → b.shows old → OnOk result (b.shows new)
   -- it is shut only where the store told of a fault of the disk
-  pub shuts : b.honest new → b.shows old → b.shows new ⊎ Rises (b.told old) (b.told new)
+  pub shuts : b.honest new → b.shows old → b.shows new ⊎ WasTold b old new
   -- what a crash leaves can be opened again
   pub again : b.sound m old → b.honest new → b.shows old → b.again m old → b.again m new
 
@@ -70,7 +63,7 @@ pub record Ends {K : Type 0} (m : Chart) (b : Book K) (old new : K) (s : State) 
   pub left : (t : State) → b.may_leave m new t → (t ≡ s) ⊎ More t
   pub again : b.again m new
   pub shown : b.shows new → IsOpen m b new × (b.content m new ≡ s)
-  pub goes : (IsOpen m b new × (b.content m new ≡ s)) ⊎ Rises (b.told old) (b.told new)
+  pub goes : (IsOpen m b new × (b.content m new ≡ s)) ⊎ WasTold b old new
 
 -- a look: its value, what Damaged tells, that the store told of what Disk tells, and that nothing else moves; which fault is told doesn't
 -- hang on what became of the keeper
@@ -79,7 +72,7 @@ pub record Looks {K X : Type 0} (m : Chart) (b : Book K) (old new : K) (Value : 
   pub keeps : Keeps m b old new result
   pub value : b.sound m old → b.shows new → IfOk result Value
   pub damaged : b.sound m old → b.honest new → b.shows old → IsErrOf result Damaged → Damage
-  pub failed : b.sound m old → b.honest new → b.shows old → IsErrOf result Disk → Rises (b.told old) (b.told new)
+  pub failed : b.sound m old → b.honest new → b.shows old → IsErrOf result Disk → WasTold b old new
   pub same : b.sound m old → b.shows new → b.content m new ≡ b.content m old
   pub left : b.sound m old → b.honest new → (s : State) → b.may_leave m new s → b.may_leave m old s
 

@@ -19,7 +19,6 @@ book = record {
   map_sum = λ _. [];
   faults = λ _. 0;
   told = λ _. 0;
-  of_size = λ _. 0;
   honest = λ _. Unit {0};
   shows = λ _. Unit {0};
   sound = λ m k. Unit {0};

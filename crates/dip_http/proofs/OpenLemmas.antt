@@ -91,7 +91,6 @@ module _ {K : Type 0} (m : Chart) (b : Book K) where
   keeps_unasked k r is = record {
     count = same_count r (b.faults k) is;
     told = omega arith;
-    of_size = omega arith;
     fair = λ honest. honest;
     same_map = refl;
     shown = λ shows. shows;
@@ -117,7 +116,6 @@ module _ {K : Type 0} (m : Chart) (b : Book K) where
     answered y r is k settles = record {
       count = k.count ∙ same_count r (b.faults old) is;
       told = k.told;
-      of_size = k.of_size;
       fair = k.fair;
       same_map = k.same_map;
       shown = k.shown;
@@ -136,7 +134,6 @@ module _ {K : Type 0} (m : Chart) (b : Book K) where
     unanswered {X} f h is k told settles = subst (λ (g : HttpFault). Keeps {X = X} m b old new (Err g)) (sym is) record {
       count = k.count;
       told = k.told;
-      of_size = k.of_size;
       fair = k.fair;
       same_map = k.same_map;
       shown = k.shown;
@@ -163,7 +160,7 @@ module _ {K : Type 0} (m : Chart) (b : Book K) where
     look_answered Value Damage y r is look = answered y r is look.keeps (look_alone m b old new Value Damage (Ok y) look)
 
     pub look_unanswered : {X Y : Type 0} (Value : Y → Type 0) (Damage : Type 0) (f : KeepFault) (h : HttpFault) → h ≡ Keep f → Looks m b old new Value Damage (Err f) → Keeps {X = X} m b old new (Err h)
-    look_unanswered Value Damage f h is look = unanswered f h is look.keeps (λ sound honest shows same. inl (look.failed sound honest shows (ap (λ (f : KeepFault). Err f) same))) (look_alone m b old new Value Damage (Err f) look)
+    look_unanswered Value Damage f h is look = unanswered f h is look.keeps (λ sound honest shows same. look.failed sound honest shows (ap (λ (f : KeepFault). Err f) same)) (look_alone m b old new Value Damage (Err f) look)
 
     pub step_answered : {X Y R : Type 0} (say : Y → R) (Step : State → R → State → Type 0) (Damage : State → Type 0) (y : Y) (r : Result X HttpFault) → IsKept r
         → Steps m b old new say Step Damage (Ok y) → Keeps m b old new r

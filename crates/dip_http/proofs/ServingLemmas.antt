@@ -1,7 +1,7 @@
 -- Clients, one after the other, and the history that they make.
 use Rattle.std.proofs.Common.{◌≡◌, ◌≤◌, ◌+◌, ◌⊎◌, inl, inr, ℕ, zero, suc, List, [], ◌∷◌, ◌++◌, None, refl, subst, sym, arith}
 use Rattle.dip_map.specs.Charts.{Chart}
-use Rattle.dip_desk_keeper.specs.Keeping.{Book, IsOpen, Rises, WasTold}
+use Rattle.dip_desk_keeper.specs.Keeping.{Book, IsOpen, WasTold}
 use Rattle.dip_desk_keeper.proofs.Keepings.{told_late}
 use Rattle.dip_desk_keeper.proofs.Ending.{ends_late, ends_open}
 use Rattle.dip_desk_machine.specs.Lawful.{IsLawful}
@@ -106,18 +106,18 @@ module _ {K : Type 0} (m : Chart) (b : Book K) where
   }
 
   -- or where the disk may have shut it
-  on_fault : (count : ℕ) (first mid new : K) → MeetsTo m b count first mid → Rises (b.told first) (b.told mid) → b.told mid ≤ b.told new → MeetsTo m b (count + 1) first new
+  on_fault : (count : ℕ) (first mid new : K) → MeetsTo m b count first mid → WasTold b first mid → b.told mid ≤ b.told new → MeetsTo m b (count + 1) first new
   on_fault count first mid new so rises counts = record { n = so.n; most = omega (arith, so.most); state = so.state; meets = so.meets; ends = inr (omega (arith, rises, counts)) }
 
   -- what the store told in a call it told after the calls before
-  pub told_next : (count : ℕ) (first mid new : K) → MeetsTo m b count first mid → b.told first ≤ b.told mid → b.told mid ≤ b.told new → b.of_size first ≤ b.of_size mid → (IsOpen m b mid → WasTold b mid new)
+  pub told_next : (count : ℕ) (first mid new : K) → MeetsTo m b count first mid → b.told first ≤ b.told mid → b.told mid ≤ b.told new → (IsOpen m b mid → WasTold b mid new)
       → WasTold b first new
-  told_next count first mid new so early late sizes one = elim so.ends [
+  told_next count first mid new so early late one = elim so.ends [
     | inl ends ↦ elim ends.goes [
-      | inl goes ↦ told_late b first mid new early sizes (one goes.0)
-      | inr rises ↦ inl (omega (arith, rises, late))
+      | inl goes ↦ told_late b first mid new early (one goes.0)
+      | inr rises ↦ omega (arith, rises, late)
     ]
-    | inr rises ↦ inl (omega (arith, rises, late))
+    | inr rises ↦ omega (arith, rises, late)
   ]
 
   pub meets_next : (count : ℕ) (first mid new : K) → MeetsTo m b count first mid → b.told first ≤ b.told mid → b.told mid ≤ b.told new → (IsOpen m b mid → MeetsAt m b mid new)

@@ -3,7 +3,7 @@ use Rattle.std.specs.Prelude.{◌≡◌, ◌≤◌, ◌⊎◌, ℕ, List, ◌++�
 use Rattle.std.specs.Io.KnownBytes.{Appends}
 use Rattle.httparse.specs.Grammar.{RequestHead}
 use Rattle.dip_map.specs.Charts.{Chart}
-use Rattle.dip_desk_keeper.specs.Keeping.{Book, Ends, IsOpen, Rises, Settles, WasTold}
+use Rattle.dip_desk_keeper.specs.Keeping.{Book, Ends, IsOpen, Settles, WasTold}
 use Rattle.dip_desk_machine.specs.Lawful.{IsLawful}
 use Rattle.dip_desk_machine.specs.Machine.{Step}
 use Rattle.dip_desk_machine.specs.Mail.{Mail}
@@ -24,14 +24,13 @@ use Rattle.dip_http.specs.declared.faults.HttpFault.TheVariants.{Read, Write, Me
 pub record Keeps {K X : Type 0} (m : Chart) (b : Book K) (old new : K) (result : Result X HttpFault) : Type 0 where
   pub count : b.faults new ≡ faults_after_answer result (b.faults old)
   pub told : b.told old ≤ b.told new
-  pub of_size : b.of_size old ≤ b.of_size new
   pub fair : b.honest new → b.honest old
   pub same_map : b.map_sum new ≡ b.map_sum old
   pub shown : b.shows new → b.shows old
   pub sound : b.sound m old → b.shows new → b.sound m new
   pub firm : b.sound m old → b.honest new → OnKept result (b.sound m new)
   pub stays_open : b.sound m old → b.honest new → b.shows old → OnKept result (b.shows new)
-  pub shuts : b.honest new → b.shows old → b.shows new ⊎ Rises (b.told old) (b.told new)
+  pub shuts : b.honest new → b.shows old → b.shows new ⊎ WasTold b old new
   -- the disk is told of only where the store told of a fault
   pub failed : b.sound m old → b.honest new → b.shows old → IsErrOf result (Keep Disk) → WasTold b old new
   pub settles : Settles m b old new

@@ -1,7 +1,7 @@
 -- What serving clients does to a desk.
 use Rattle.std.specs.Prelude.{◌≡◌, ◌≤◌, ◌⊎◌, ℕ, zero, suc, None, List, [], ◌++◌, IfErr, IsErrOf, OnOk, Result}
 use Rattle.dip_map.specs.Charts.{Chart}
-use Rattle.dip_desk_keeper.specs.Keeping.{Book, Ends, IsOpen, Rises, WasTold}
+use Rattle.dip_desk_keeper.specs.Keeping.{Book, Ends, IsOpen, WasTold}
 use Rattle.dip_desk_machine.specs.Lawful.{IsLawful}
 use Rattle.dip_desk_machine.specs.Machine.{Step}
 use Rattle.dip_desk_machine.specs.Mail.{IsMail, Mail}
@@ -70,7 +70,7 @@ pub record MeetsTo {K : Type 0} (m : Chart) (b : Book K) (count : ℕ) (old new 
   pub most : n ≤ count
   pub state : State
   pub meets : Meets m n (b.content m old) state
-  pub ends : Ends m b old new state (TakesOne m state) ⊎ Rises (b.told old) (b.told new)
+  pub ends : Ends m b old new state (TakesOne m state) ⊎ WasTold b old new
 
 -- a fault that ends the serving: after any other the keeper goes on
 abbrev pub IsShut : KeepFault → Type 0
@@ -87,7 +87,6 @@ pub record MeetsNext {K : Type 0} (m : Chart) (b : Book K) (old new : K) (result
   pub shut : IfErr result IsShut
   pub count : b.faults new ≡ faults_after result (b.faults old)
   pub told : b.told old ≤ b.told new
-  pub of_size : b.of_size old ≤ b.of_size new
   pub fair : b.honest new → b.honest old
   pub same_map : b.map_sum new ≡ b.map_sum old
   pub shown : b.shows new → b.shows old
@@ -96,7 +95,7 @@ pub record MeetsNext {K : Type 0} (m : Chart) (b : Book K) (old new : K) (result
 -- one history of letters; and it does, or a fault of the disk came with one that was told of want of memory
 pub record ServesEach {K : Type 0} (m : Chart) (b : Book K) (count : ℕ) (old new : K) : Type 0 where
   pub shown : b.shows new → IsOpen m b new × Serves m count (b.content m old) (b.content m new)
-  pub goes : b.shows new ⊎ Rises (b.told old) (b.told new)
+  pub goes : b.shows new ⊎ WasTold b old new
 
 -- at most so many clients, over a keeper that was open, made one history of letters, and a crash leaves the state after it, or after a letter more.
 -- Or a fault of the disk came with one that was told of want of memory, and nothing is said of a crash after that; but where the keeper shows what
@@ -107,7 +106,7 @@ pub record ServesTo {K : Type 0} (m : Chart) (b : Book K) (count : ℕ) (old new
   pub most : n ≤ count
   pub state : State
   pub serves : Serves m n (b.content m old) state
-  pub ends : Ends m b old new state (TakesOne m state) ⊎ Rises (b.told old) (b.told new)
+  pub ends : Ends m b old new state (TakesOne m state) ⊎ WasTold b old new
 
 -- how so many clients are served, one after the other: from an open keeper on, over an honest disk, all of them, or
 -- some up to a fault; which faults there are, and how many of the disk

@@ -28,7 +28,7 @@ use Rattle.dip_store.specs.declared.keeper.SqlKeeper.{SqlKeeper}
 use Rattle.dip_store.specs.declared.paper_faults.PaperFault.{PaperFault}
 use Rattle.dip_store.specs.declared.paper_faults.PaperFault.TheVariants as paper
 use Rattle.dip_judge_commands.specs.Lasting.{IsDamage, Lasts, LeavesLawful, SaysLawful}
-use Rattle.dip_judge_commands.specs.Stores.{AnswersFrom, ServesFrom, ServesUpTo, StopsFrom}
+use Rattle.dip_judge_commands.specs.Stores.{AnswersFrom, IsOfDisk, ServesFrom, ServesUpTo, StopsFrom}
 use Rattle.dip_judge_commands.specs.declared.failures.Failure.{Failure}
 use Rattle.dip_judge_commands.specs.declared.failures.Failure.TheVariants.{Papers, Run, Serving}
 
@@ -42,6 +42,28 @@ damage_run run.Memory is = absurd is
 damage_run (run.Keep keep.Memory) is = absurd is
 damage_run (run.Keep keep.Disk) is = absurd is
 damage_run (run.Keep keep.Damaged) is = refl
+
+-- and which that the disk failed
+
+pub disk_run : (fault : RunFault) → IsOfDisk (Run fault) → fault ≡ run.Keep keep.Disk
+disk_run run.Read is = absurd is
+disk_run run.TooLong is = absurd is
+disk_run run.Write is = absurd is
+disk_run run.Memory is = absurd is
+disk_run (run.Keep keep.Memory) is = absurd is
+disk_run (run.Keep keep.Disk) is = refl
+disk_run (run.Keep keep.Damaged) is = absurd is
+
+pub disk_serving : (fault : KeepFault) → IsOfDisk (Serving fault) → fault ≡ keep.Disk
+disk_serving keep.Memory is = absurd is
+disk_serving keep.Disk is = refl
+disk_serving keep.Damaged is = absurd is
+
+pub disk_papers : (fault : PaperFault) → IsOfDisk (Papers fault) → fault ≡ paper.Keep keep.Disk
+disk_papers paper.Write is = absurd is
+disk_papers (paper.Keep keep.Memory) is = absurd is
+disk_papers (paper.Keep keep.Disk) is = refl
+disk_papers (paper.Keep keep.Damaged) is = absurd is
 
 pub damage_serving : (fault : KeepFault) → IsDamage (Serving fault) → fault ≡ keep.Damaged
 damage_serving keep.Memory is = absurd is
@@ -108,8 +130,8 @@ module _ {S : Type 0} (g : Ghosts S) (m : Chart) (text : List ℕ) where
 
     pub stops_last : (F : Type 0) (Was : Database → Type 0) (known left before after : Option (List ℕ)) (fault : RunFault)
         → LeavesText g text new → StopsFrom g m F Was old new known left before after (Run fault) → LeavesLawful g m text new
-    stops_last F Was known left before after fault says (inl it) = ends_lawful F old (λ _. ⊥) new law (λ t none. absurd none) says it.1
-    stops_last F Was known left before after fault says (inr it) =
+    stops_last F Was known left before after fault says (blames, inl it) = ends_lawful F old (λ _. ⊥) new law (λ t none. absurd none) says it.1
+    stops_last F Was known left before after fault says (blames, inr it) =
         let stopped = it.2 in
         let rest = stopped.stops.rest in
         let there = front_keeps m (IsLawful m) steps it.0 old stopped.state stopped.stops.replies rest stopped.stops.front law in

@@ -12,7 +12,7 @@ use Rattle.dip_judge_runs.specs.RunFaults.{StopsBy}
 use Rattle.dip_judge_runs.specs.Runs.{AnswersAll, IsReadWhole, IsUntouched, Stops, StopsAt, TakesNext}
 use Rattle.dip_judge_runs.specs.declared.run.RunFault.{RunFault}
 use Rattle.dip_judge_runs.specs.declared.run.RunFault.TheVariants.{Read, TooLong, Write, Memory, Keep}
-use Rattle.dip_desk_keeper.specs.Keeping.{Ends, IsOpen}
+use Rattle.dip_desk_keeper.specs.Keeping.{Ends, IsOpen, WasTold}
 use Rattle.dip_desk_keeper.proofs.Ending.{ends_open}
 use Rattle.dip_store.specs.Causes.{has_faulted}
 use Rattle.dip_store.specs.Opening.{EndsSo, HasOnly, Holds, IsSameOrRenewed, IsShutBy, IsUnmadeBy, MakesStore, Opens, OpensStore, StaysShut, StoreEnds}
@@ -20,7 +20,7 @@ use Rattle.dip_store.specs.StoreFault.{StoreFault}
 use Rattle.dip_store.specs.Stored.{IsStoreOf, book}
 use Rattle.dip_store.proofs.Opened.{ends_held, held_by}
 use Rattle.dip_store.specs.declared.keeper.SqlKeeper.{SqlKeeper}
-use Rattle.dip_judge_commands.specs.Stores.{AnswersFrom, ReadsUpTo, Reports, ServesFrom, ServesUpTo, StopsFrom, StopsIn, StopsReport, StopsServing}
+use Rattle.dip_judge_commands.specs.Stores.{AnswersFrom, BlamesDisk, IsOfDisk, ReadsUpTo, Reports, ServesFrom, ServesUpTo, StopsFrom, StopsIn, StopsReport, StopsServing}
 use Rattle.dip_http.specs.Serving.{Serves, ServesEach, ServesTo}
 use Rattle.dip_judge_commands.specs.declared.failures.Failure.{Failure}
 use Rattle.dip_judge_commands.specs.declared.failures.Failure.TheVariants.{Checking, Listen, Map, NoGame, NoMemory, Negative, Papers, Run, Serving, Store, Usage}
@@ -54,14 +54,14 @@ module _ {S : Type 0} (g : Ghosts S) (m : Chart) (old : State) (k kept : SqlKeep
         stopped_as t stops ends = subst (λ s. StopsIn g m Fault fault input s kept.conn before after) opened.says (record { state = t; stops = stops; ends = ends })
 
     -- a run that stopped
-    pub stops_from : IsUntouched before after k kept ⊎ ((input : List ℕ) × IsReadWhole known left input × StopsAt m (book g) fault input k kept before after)
+    pub stops_from : BlamesDisk Fault (Run fault) → IsUntouched before after k kept ⊎ ((input : List ℕ) × IsReadWhole known left input × StopsAt m (book g) fault input k kept before after)
         → StopsFrom g m Fault Was old kept.conn known left before after (Run fault)
-    stops_from (inl nothing) = inl (
+    stops_from blames (inl nothing) = (blames, inl (
       nothing.written,
       ends_held g m store k kept old (λ _. ⊥) counted
           (subst (λ (k_end : SqlKeeper S). Ends m (book g) k k_end old (λ _. ⊥)) (sym nothing.kept) (subst (λ s. Ends m (book g) k k s (λ _. ⊥)) opened.says (ends_open m (book g) k k (λ _. ⊥) (is_open g m old k opened)))),
-    )
-    stops_from (inr run) = inr (run.0, run.1, stopped run.0 run.2)
+    ))
+    stops_from blames (inr run) = (blames, inr (run.0, run.1, stopped run.0 run.2))
 
 -- why a store isn't opened
 pub shut_by : {S : Type 0} (g : Ghosts S) (m : Chart) (text : List ℕ) (store : Held S) (fault : StoreFault) (new : Held S)
@@ -113,8 +113,8 @@ module _ {S : Type 0} (g : Ghosts S) (m : Chart) (F G : Type 0) (turn : F → G)
     (known left before after : Option (List ℕ)) where
   pub stops_as_of : (failure : Failure) → StopsFrom g m F Was old new known left before after failure → StopsFrom g m G Will old new known left before after failure
   stops_as_of (Store fault) it = (it.0, shut_as g m F G turn new old Was Will will it.1)
-  stops_as_of (Run fault) (inl it) = inl (it.0, ends_as g m F G turn new old _ it.1)
-  stops_as_of (Run fault) (inr it) = inr (it.0, it.1, record { state = it.2.state; stops = it.2.stops; ends = ends_as g m F G turn new it.2.state _ it.2.ends })
+  stops_as_of (Run fault) (blames, inl it) = (λ bad. turn (blames bad), inl (it.0, ends_as g m F G turn new old _ it.1))
+  stops_as_of (Run fault) (blames, inr it) = (λ bad. turn (blames bad), inr (it.0, it.1, record { state = it.2.state; stops = it.2.stops; ends = ends_as g m F G turn new it.2.state _ it.2.ends }))
   stops_as_of (Usage fault) it = absurd it
   stops_as_of (Map fault) it = absurd it
   stops_as_of NoMemory it = absurd it
@@ -124,6 +124,11 @@ module _ {S : Type 0} (g : Ghosts S) (m : Chart) (F G : Type 0) (turn : F → G)
   stops_as_of Negative it = absurd it
   stops_as_of (Checking fault) it = absurd it
   stops_as_of (Papers fault) it = absurd it
+
+-- a fault of the disk that a keeper told of is one of its store
+pub blamed : {S : Type 0} (g : Ghosts S) (store : Held S) (k kept : SqlKeeper S) (failure : Failure) → (state g store).faults ≤ (state g k.conn).faults
+    → (IsOfDisk failure → WasTold (book g) k kept) → BlamesDisk (has_faulted g store kept.conn) failure
+blamed g store k kept failure counted told bad = let rises = told bad in omega (arith, counted, rises)
 
 -- more faults than before are some
 pub some_fault : {S : Type 0} (g : Ghosts S) (old new : Held S) → has_faulted g old new → 1 ≤ (state g new).faults
@@ -153,10 +158,11 @@ ends_still g m _ old new More it = record { left = λ trees may. inl (it.left tr
 
 -- papers that a fault broke off
 pub breaks_off : {S : Type 0} (g : Ghosts S) (m : Chart) (name : List ℕ) (Was : Database → Type 0) (store : Held S) (old : State) (k kept : SqlKeeper S) (fault : PaperFault) (before after : Option (List ℕ)) → Opens g m old k
-    → (state g store).faults ≤ (state g k.conn).faults → BreaksOff m (book g) name k kept before after
+    → (state g store).faults ≤ (state g k.conn).faults → BlamesDisk (has_faulted g store kept.conn) (Papers fault) → BreaksOff m (book g) name k kept before after
     → StopsReport g m (has_faulted g store kept.conn) Was name old kept.conn before after (Papers fault)
-breaks_off g m name Was store old k kept fault before after opened counted it = (
+breaks_off g m name Was store old k kept fault before after opened counted blames it = (
   subst (λ (s : State). AreBegun (game_at name s) before after) opened.says it.begun,
+  blames,
   ends_held g m store k kept old (λ _. ⊥) counted (subst (λ (s : State). Ends m (book g) k kept s (λ _. ⊥)) opened.says it.ends),
 )
 
@@ -190,8 +196,8 @@ serves_as g m F G turn old new count (inr fault) = inr (turn fault)
 module _ {S : Type 0} (g : Ghosts S) (m : Chart) (F G : Type 0) (turn : F → G) (Was Will : Database → Type 0) (will : (db : Database) → Was db → Will db) (old : State) (new : Held S) where
   pub report_as : (name : List ℕ) (before after : Option (List ℕ)) (failure : Failure) → StopsReport g m F Was name old new before after failure → StopsReport g m G Will name old new before after failure
   report_as name before after (Store fault) it = (it.0, shut_as g m F G turn new old Was Will will it.1)
-  report_as name before after NoGame it = (it.0, ends_as g m F G turn new old _ it.1)
-  report_as name before after (Papers fault) it = (it.0, ends_as g m F G turn new old _ it.1)
+  report_as name before after NoGame it = (it.0, λ bad. turn (it.1 bad), ends_as g m F G turn new old _ it.2)
+  report_as name before after (Papers fault) it = (it.0, λ bad. turn (it.1 bad), ends_as g m F G turn new old _ it.2)
   report_as name before after (Usage fault) it = absurd it.0
   report_as name before after (Map fault) it = absurd it.0
   report_as name before after (Run fault) it = absurd it.0
@@ -205,13 +211,13 @@ module _ {S : Type 0} (g : Ghosts S) (m : Chart) (F G : Type 0) (turn : F → G)
   serving_as count (Store fault) it = shut_as g m F G turn new old Was Will will it
   serving_as count NoMemory it = ends_as g m F G turn new old _ it
   serving_as count Listen it = ends_as g m F G turn new old _ it
-  serving_as count (Serving fault) it = record {
+  serving_as count (Serving fault) (blames, it) = (λ bad. turn (blames bad), record {
     n = it.n;
     most = it.most;
     state = it.state;
     serves = it.serves;
     ends = elim it.ends [ inl ends ↦ inl (ends_as g m F G turn new it.state _ ends) | inr fault ↦ inr (turn fault) ];
-  }
+  })
   serving_as count (Usage fault) it = absurd it
   serving_as count (Map fault) it = absurd it
   serving_as count (Run fault) it = absurd it

@@ -6,7 +6,9 @@ use Rattle.sqlite.specs.Store.{Ghosts}
 use Rattle.sqlite.specs.Held.{Held, state}
 use Rattle.dip_map.specs.Charts.{Chart}
 use Rattle.dip_desk_state.specs.State.{State, game_at}
+use Rattle.dip_desk_state.specs.declared.faults.KeepFault.TheVariants as keep
 use Rattle.dip_store.specs.Papers.{AreBegun, papers_text}
+use Rattle.dip_store.specs.declared.paper_faults.PaperFault.TheVariants as paper
 use Rattle.dip_store.specs.Calls.{is_honest}
 use Rattle.dip_store.specs.Opening.{Holds, IsMadeForText, IsShutBy, StaysShut, StoreEnds}
 use Rattle.dip_store.specs.StoreFault.{StoreFault}
@@ -14,6 +16,7 @@ use Rattle.dip_store.specs.StoreFault.TheVariants.{Memory, Disk, OtherSchema}
 use Rattle.dip_judge_runs.specs.RunFaults.{StopsBy}
 use Rattle.dip_judge_runs.specs.Runs.{AnswersAll, IsReadToEnd, IsReadWhole, Stops, TakesNext}
 use Rattle.dip_judge_runs.specs.declared.run.RunFault.{RunFault}
+use Rattle.dip_judge_runs.specs.declared.run.RunFault.TheVariants as run
 use Rattle.dip_http.specs.Serving.{IsShut, Serves, TakesOne}
 use Rattle.dip_judge_commands.specs.declared.failures.Failure.{Failure}
 use Rattle.dip_judge_commands.specs.declared.failures.Failure.TheVariants.{Listen, NoGame, NoMemory, Papers, Run, Serving, Store}
@@ -37,6 +40,17 @@ TellsOfStore g m text store new (Err (Store fault)) = IsShutBy g m text store ne
 TellsOfStore g m text store new result =
     is_honest g new → IsMadeForText m text (state g store).now
 
+-- the failure of a keeper says that the disk failed
+abbrev pub IsOfDisk : Failure → Type 0
+IsOfDisk (Run (run.Keep keep.Disk)) = Unit {0}
+IsOfDisk (Serving keep.Disk) = Unit {0}
+IsOfDisk (Papers (paper.Keep keep.Disk)) = Unit {0}
+IsOfDisk failure = ⊥
+
+-- which it says only where there was this fault
+abbrev pub BlamesDisk : Type 0 → Failure → Type 0
+BlamesDisk Fault failure = IsOfDisk failure → Fault
+
 -- nothing was read, and nothing written
 abbrev pub IsIdle : Option (List ℕ) → Option (List ℕ) → Option (List ℕ) → Option (List ℕ) → Type 0
 IsIdle known left before after = (left ≡ known) × (after ≡ before)
@@ -54,16 +68,18 @@ pub record StopsIn {S : Type 0} (g : Ghosts S) (m : Chart) (Fault : Type 0) (fau
   pub ends : StoreEnds g m Fault new state (TakesNext m stops.rest state)
 
 -- answering from a store stopped at a failure: of the store, which isn't opened, and nothing was
--- read; or of the run, and nothing was written, or a front of the input was answered
+-- read; or of the run, which blames the disk for no more than its fault, and nothing was written, or a
+-- front of the input was answered
 abbrev pub StopsFrom : {S : Type 0} → Ghosts S → Chart → Type 0 → (Database → Type 0) → State
     → Held S → Option (List ℕ) → Option (List ℕ) → Option (List ℕ) → Option (List ℕ) → Failure
     → Type 0
 StopsFrom g m Fault Was old new known left before after (Store fault) =
     IsIdle known left before after × StaysShut g m Fault new old Was
 StopsFrom g m Fault Was old new known left before after (Run fault) =
-    ((after ≡ before) × StoreEnds g m Fault new old (λ _. ⊥))
+    BlamesDisk Fault (Run fault)
+    × (((after ≡ before) × StoreEnds g m Fault new old (λ _. ⊥))
     ⊎ ((input : List ℕ) × IsReadWhole known left input
-    × StopsIn g m Fault fault input old new before after)
+    × StopsIn g m Fault fault input old new before after))
 StopsFrom g m Fault Was old new known left before after failure = ⊥
 
 -- what is read and written up to a fault, whatever the store has
@@ -93,7 +109,8 @@ abbrev pub StopsReport : {S : Type 0} → Ghosts S → Chart → Type 0 → (Dat
 StopsReport g m Fault Was game s new before after (Store fault) =
     (after ≡ before) × StaysShut g m Fault new s Was
 StopsReport g m Fault Was game s new before after failure =
-    ReportsUpTo game s before after failure × StoreEnds g m Fault new s (λ _. ⊥)
+    ReportsUpTo game s before after failure × BlamesDisk Fault failure
+    × StoreEnds g m Fault new s (λ _. ⊥)
 
 -- a report may fail by its store, by a game that isn't there, or while papers are written
 abbrev pub IsReportFailure : Failure → Type 0
@@ -129,5 +146,6 @@ abbrev pub StopsServing : {S : Type 0} → Ghosts S → Chart → Type 0 → (Da
 StopsServing g m Fault Was count old new (Store fault) = StaysShut g m Fault new old Was
 StopsServing g m Fault Was count old new NoMemory = StoreEnds g m Fault new old (λ _. ⊥)
 StopsServing g m Fault Was count old new Listen = StoreEnds g m Fault new old (λ _. ⊥)
-StopsServing g m Fault Was count old new (Serving fault) = ServesUpTo g m Fault count old new
+StopsServing g m Fault Was count old new (Serving fault) =
+    BlamesDisk Fault (Serving fault) × ServesUpTo g m Fault count old new
 StopsServing g m Fault Was count old new failure = ⊥

@@ -21,7 +21,6 @@ use Rattle.dip_judge_runs.specs.declared.run.RunFault.TheVariants.{Keep, Memory,
 pub record GoesOn {K : Type 0} (m : Chart) (b : Book K) (input : List ℕ) (old new : K) (reply : Row) (after : List ℕ) : Type 0 where
   pub count : b.faults new ≡ b.faults old
   pub told : b.told old ≤ b.told new
-  pub of_size : b.of_size old ≤ b.of_size new
   pub fair : b.honest new → b.honest old
   pub same_map : b.map_sum new ≡ b.map_sum old
   pub opens : IsOpen m b old → b.honest new → IsOpen m b new
@@ -34,7 +33,6 @@ stays : {K : Type 0} (m : Chart) (b : Book K) (input : List ℕ) (k : K) (reply 
 stays m b input k reply after turn = record {
   count = refl;
   told = omega arith;
-  of_size = omega arith;
   fair = λ honest. honest;
   same_map = refl;
   opens = λ it honest. it;
@@ -48,7 +46,6 @@ goes_with : {K : Type 0} (m : Chart) (b : Book K) (old new : K) (reply : Row) (a
 goes_with m b old new reply after input (Taken l rest) laws is h = record {
   count = h.0.keeps.count;
   told = h.0.keeps.told;
-  of_size = h.0.keeps.of_size;
   fair = h.0.keeps.fair;
   same_map = h.0.keeps.same_map;
   opens = λ it honest. (steps_on m b old new (λ r. rows.reply r) _ _ (Ok reply) h.0 it honest).0;

@@ -60,7 +60,6 @@ module _ {S : Type 0} (g : Ghosts S) (m : Chart) (k : SqlKeeper S) (c : Held S) 
     keeps = record {
       count = refl;
       told = p.counts;
-      of_size = omega arith;
       fair = p.fair;
       same_map = refl;
       shown = p.shown;
@@ -89,7 +88,6 @@ module _ {S : Type 0} (g : Ghosts S) (m : Chart) (k : SqlKeeper S) (c : Held S) 
     keeps = record {
       count = count;
       told = p.counts;
-      of_size = omega arith;
       fair = p.fair;
       same_map = refl;
       shown = p.shown;
@@ -128,7 +126,6 @@ module _ {S : Type 0} (g : Ghosts S) (m : Chart) (k : SqlKeeper S) where
     keeps = record {
       count = refl;
       told = omega arith;
-      of_size = omega arith;
       fair = λ clean. clean;
       same_map = refl;
       shown = λ shows. shows;
@@ -151,7 +148,6 @@ module _ {S : Type 0} (g : Ghosts S) (m : Chart) (k : SqlKeeper S) where
     keeps = record {
       count = refl;
       told = omega arith;
-      of_size = omega arith;
       fair = λ clean. clean;
       same_map = refl;
       shown = λ shows. shows;

@@ -1,13 +1,12 @@
 -- A change of the rows is the change of their keeper.
-use Rattle.std.proofs.Common.{◌≡◌, bytes_eq, ◌≤◌, ◌⊎◌, ◌-◌, ◌^◌, Bool, true, false, nat_lt, IsTrue, arith, inl, inr, ◌+◌, ℕ, Option, refl, sym, ap, subst, ◌∙◌}
-use Rattle.std.proofs.lemmas.Bool.{cases_Bool, ltb-false}
+use Rattle.std.proofs.Common.{◌≡◌, bytes_eq, ◌≤◌, ◌⊎◌, false, IsTrue, arith, inl, inr, ℕ, Option, refl, sym, ap, subst, ◌∙◌}
 use Rattle.sqlite.specs.Effect.{Database}
 use Rattle.sqlite.specs.Tree.{Trees}
 use Rattle.sqlite.specs.Store.{Ghosts}
 use Rattle.sqlite.specs.Held.{Held, state}
 use Rattle.dip_map.specs.Charts.{Chart}
 use Rattle.dip_desk_keeper.specs.Fitting.{Fits}
-use Rattle.dip_desk_keeper.specs.Keeping.{Changes, Rises}
+use Rattle.dip_desk_keeper.specs.Keeping.{Changes}
 use Rattle.dip_store.specs.Laws.{FindsPlaceInTables, FitsIsWritable, WhatFitsFindsPlace}
 use Rattle.dip_store_tables.specs.LegibleLaws.{TablesStayLegible}
 use Rattle.dip_store_tables.specs.Legible.{AreLegible, AreOurs}
@@ -35,7 +34,7 @@ use Rattle.dip_store_sql.specs.RowFaults.{BlamesFor, FailsFor}
 use Rattle.dip_store_changes.specs.Laws.{ChangesAreMade, IsMade}
 use Rattle.dip_store_changes.specs.Making.{MakesFrom, MayMake}
 use Rattle.dip_store_sql.specs.declared.row_faults.RowFault.{RowFault}
-use Rattle.dip_store.specs.Faults.{is_of_size, row_fault}
+use Rattle.dip_store.specs.Faults.{row_fault}
 use Rattle.dip_desk_state.specs.Writable.{IsAuthorOf}
 use Rattle.dip_store_tables.specs.Looking.{OwnIsFound}
 use Rattle.dip_store_counts.specs.Knowing.{IsKeptFor, IsKnown, IsUnordered, is_unordered, row_known}
@@ -44,7 +43,7 @@ use Rattle.dip_store_memory.specs.Idle.{Idle, RecallsIdle}
 use Rattle.dip_store_memory.specs.Owns.{Owns, RecallsOwns, owns_of}
 use Rattle.dip_store_memory.specs.Seen.{DifferByName, Parts, Recalls}
 use Rattle.dip_store.proofs.Marked.{changed_says}
-use Rattle.dip_store.specs.Stored.{AreStored, SaysMap, book, said_by, sized, sizing, telling}
+use Rattle.dip_store.specs.Stored.{AreStored, SaysMap, book, said_by, telling}
 use Rattle.dip_store.specs.declared.keeper.SqlKeeper.{SqlKeeper}
 use Rattle.dip_store.proofs.Outside.{make_caused, make_outside}
 use Rattle.dip_store_memory.proofs.Seeing.{Heeds}
@@ -54,25 +53,6 @@ use Rattle.dip_store.proofs.Authoring.{known_of}
 -- in what tables say no two games have one name
 differ_by_name : (m : Chart) (db : Database) → IsGood db → DifferByName (said_by m db.trees).games
 differ_by_name m db good = ascending-map (λ a b. bytes_eq (name_of a) (name_of b) ≡ false) (game_of m (tables_of db.trees)) (tables_of db.trees).games (are_apart db good).games
-
--- a count of faults of size doesn't fall, and where it counts one it rises
-size_counts : (b : Bool) (n : ℕ) → n ≤ sized b n
-size_counts false n = omega arith
-size_counts true n = elim (cases_Bool (nat_lt n (2 ^ 64 - 1))) [
-  | inl less ↦ rw less (omega arith)
-  | inr most ↦ rw most (omega arith)
-]
-
-size_rises : (n : ℕ) → Rises n (sized true n)
-size_rises n = elim (cases_Bool (nat_lt n (2 ^ 64 - 1))) [
-  | inl less ↦ rw less (omega arith)
-  | inr most ↦ let full = ltb-false n (2 ^ 64 - 1) most in rw most (omega (arith, full))
-]
-
-size_rose : (fault : Type 0) (b : Bool) (n : ℕ) → fault ⊎ (b ≡ true) → fault ⊎ Rises n (sized b n)
-size_rose fault b n (inl was) = inl was
-size_rose fault true n (inr is) = inr (size_rises n)
-size_rose fault false n (inr is) = absurd (let x = is in cc)
 
 module _ {S : Type 0} (g : Ghosts S) (m : Chart) (k : SqlKeeper S) (c : Change) where
   -- while a store is open, a crash leaves its last commit
@@ -126,7 +106,6 @@ module _ {S : Type 0} (g : Ghosts S) (m : Chart) (k : SqlKeeper S) (c : Change) 
       keeps = record {
         count = refl;
         told = p.counts;
-        of_size = omega arith;
         fair = p.fair;
         same_map = refl;
         shown = p.shown;
@@ -188,15 +167,14 @@ module _ {S : Type 0} (g : Ghosts S) (m : Chart) (k : SqlKeeper S) (c : Change) 
     abbrev StaysRemembered : Type 0
     StaysRemembered = (s : State) → (RecallsOwns s k.owns → RecallsOwns s owns) × (RecallsIdle s k.idle → RecallsIdle s idle)
 
-    changes_told : (X Y E : Type 0) (e : E) (f : KeepFault) (n z : ℕ) → StaysRemembered → HasTexts c → TablesStayLegible m → TablesStayCounted m → LandsWell → Settled → MakesFrom Keeps g (changing m c) k.conn new (fails Y E e) → n ≡ faults_with f k.failures → k.of_size ≤ z
+    changes_told : (X Y E : Type 0) (e : E) (f : KeepFault) (n : ℕ) → StaysRemembered → HasTexts c → TablesStayLegible m → TablesStayCounted m → LandsWell → Settled → MakesFrom Keeps g (changing m c) k.conn new (fails Y E e) → n ≡ faults_with f k.failures
         → (Keeps → is_honest g new → does_show g k.conn → Fits m c (said_by m (state g k.conn).now.trees) → f ≡ Damaged → ⊥)
-        → (Keeps → is_honest g new → does_show g k.conn → f ≡ Disk → has_faulted g k.conn new ⊎ Rises k.of_size z)
-        → Changes m (book g) k (record k { conn = new; failures = n; of_size = z; seen = seen; owns = owns; idle = idle }) (state_after c) (Fits m c) (fails X KeepFault f)
-    changes_told X Y E e f n z remembered texts legible counted lands_well settled p count sizes never caused = record {
+        → (Keeps → is_honest g new → does_show g k.conn → f ≡ Disk → has_faulted g k.conn new)
+        → Changes m (book g) k (record k { conn = new; failures = n; seen = seen; owns = owns; idle = idle }) (state_after c) (Fits m c) (fails X KeepFault f)
+    changes_told X Y E e f n remembered texts legible counted lands_well settled p count never caused = record {
       keeps = record {
         count = count;
         told = p.counts;
-        of_size = sizes;
         fair = p.fair;
         same_map = refl;
         shown = p.shown;
@@ -232,25 +210,20 @@ module _ {S : Type 0} (g : Ghosts S) (m : Chart) (k : SqlKeeper S) (c : Change) 
       ];
     }
 
-    changes_counted : (X Y E : Type 0) (e : E) (f : KeepFault) (b : Bool) → StaysRemembered → HasTexts c → TablesStayLegible m → TablesStayCounted m → LandsWell → Settled → MakesFrom Keeps g (changing m c) k.conn new (fails Y E e)
+    changes_counted : (X Y E : Type 0) (e : E) (f : KeepFault) → StaysRemembered → HasTexts c → TablesStayLegible m → TablesStayCounted m → LandsWell → Settled → MakesFrom Keeps g (changing m c) k.conn new (fails Y E e)
         → (Keeps → is_honest g new → does_show g k.conn → Fits m c (said_by m (state g k.conn).now.trees) → f ≡ Damaged → ⊥)
-        → (Keeps → is_honest g new → does_show g k.conn → f ≡ Disk → has_faulted g k.conn new ⊎ (b ≡ true))
-        → Changes m (book g) k (telling f (sizing b (record k { conn = new; seen = seen; owns = owns; idle = idle }))) (state_after c) (Fits m c) (fails X KeepFault f)
-    changes_counted X Y E e f b remembered texts legible counted lands settled p never caused = by f never (λ kept clean shows is. size_rose (has_faulted g k.conn new) b k.of_size (caused kept clean shows is))
-      where
-        by : (f : KeepFault) → (Keeps → is_honest g new → does_show g k.conn → Fits m c (said_by m (state g k.conn).now.trees) → f ≡ Damaged → ⊥)
-            → (Keeps → is_honest g new → does_show g k.conn → f ≡ Disk → has_faulted g k.conn new ⊎ Rises k.of_size (sized b k.of_size))
-            → Changes m (book g) k (telling f (sizing b (record k { conn = new; seen = seen; owns = owns; idle = idle }))) (state_after c) (Fits m c) (fails X KeepFault f)
-        by Memory never rose = changes_told X Y E e Memory k.failures (sized b k.of_size) remembered texts legible counted lands settled p refl (size_counts b k.of_size) never rose
-        by Disk never rose = changes_told X Y E e Disk (next_count k.failures) (sized b k.of_size) remembered texts legible counted lands settled p refl (size_counts b k.of_size) never rose
-        by Damaged never rose = changes_told X Y E e Damaged k.failures (sized b k.of_size) remembered texts legible counted lands settled p refl (size_counts b k.of_size) never rose
+        → (Keeps → is_honest g new → does_show g k.conn → f ≡ Disk → has_faulted g k.conn new)
+        → Changes m (book g) k (telling f (record k { conn = new; seen = seen; owns = owns; idle = idle })) (state_after c) (Fits m c) (fails X KeepFault f)
+    changes_counted X Y E e Memory remembered texts legible counted lands settled p never caused = changes_told X Y E e Memory k.failures remembered texts legible counted lands settled p refl never caused
+    changes_counted X Y E e Disk remembered texts legible counted lands settled p never caused = changes_told X Y E e Disk (next_count k.failures) remembered texts legible counted lands settled p refl never caused
+    changes_counted X Y E e Damaged remembered texts legible counted lands settled p never caused = changes_told X Y E e Damaged k.failures remembered texts legible counted lands settled p refl never caused
 
     -- a change that fits isn't made for want alone, and of any change the disk is told of only where the store told of a fault
     pub changes_ill : (X Y : Type 0) (e : RowFault) → StaysRemembered → HasTexts c → TablesStayLegible m → TablesStayCounted m → LandsWell → Settled → WhatFitsFindsPlace m → MakesFrom Keeps g (changing m c) k.conn new (fails Y RowFault e)
         → (Keeps → does_show g k.conn → is_honest g new → MayMake m c (tables_in g k.conn) → FailsFor (has_faulted g k.conn new) (HasPlace m c (tables_in g k.conn) → ⊥) e)
         → (Keeps → does_show g k.conn → is_honest g new → AreOurs m (tables_in g k.conn) → BlamesFor (has_faulted g k.conn new) e)
-        → Changes m (book g) k (telling (row_fault e) (sizing (is_of_size e) (record k { conn = new; seen = seen; owns = owns; idle = idle }))) (state_after c) (Fits m c) (fails X KeepFault (row_fault e))
-    changes_ill X Y e remembered texts legible counted lands settled finds p why blames = changes_counted X Y RowFault e (row_fault e) (is_of_size e) remembered texts legible counted lands settled p (λ kept clean shows fit.
+        → Changes m (book g) k (telling (row_fault e) (record k { conn = new; seen = seen; owns = owns; idle = idle })) (state_after c) (Fits m c) (fails X KeepFault (row_fault e))
+    changes_ill X Y e remembered texts legible counted lands settled finds p why blames = changes_counted X Y RowFault e (row_fault e) remembered texts legible counted lands settled p (λ kept clean shows fit.
         let place = placed kept fit in
         make_outside (has_faulted g k.conn new) (HasPlace m c (tables_in g k.conn) → ⊥) e (why kept shows clean (record { ours = kept.1; keyed = place.keyed })) (λ none. none (record { paper = place.paper; room = place.room })))
         (λ kept clean shows. make_caused (has_faulted g k.conn new) e (blames kept shows clean kept.1))
@@ -264,7 +237,6 @@ module _ {S : Type 0} (g : Ghosts S) (m : Chart) (k : SqlKeeper S) (c : Change) 
     keeps = record {
       count = refl;
       told = omega arith;
-      of_size = omega arith;
       fair = λ clean. clean;
       same_map = refl;
       shown = λ shows. shows;

@@ -1,5 +1,5 @@
 -- Want of memory, of room, and faults of the disk are never told as Damaged.
-use Rattle.std.proofs.Common.{◌≡◌, ◌⊎◌, IsTrue, false, true, inl, inr, refl, ap, sym, ◌∙◌}
+use Rattle.std.proofs.Common.{◌≡◌, IsTrue, false, true, inl, inr, refl, ap, sym, ◌∙◌}
 use Rattle.sqlite.specs.State.{is_disk_error}
 use Rattle.sqlite.specs.declared.error.Error.{Error}
 use Rattle.sqlite.specs.declared.error.Error.TheVariants.{SqliteFailure}
@@ -12,7 +12,7 @@ use Rattle.dip_desk_state.specs.declared.faults.KeepFault.{KeepFault}
 use Rattle.dip_desk_state.specs.declared.faults.KeepFault.TheVariants.{Memory, Disk, Damaged}
 use Rattle.dip_store_sql.specs.Refusals.{IsBlamed, IsWant}
 use Rattle.dip_store_sql.specs.Causes.{IsCaused}
-use Rattle.dip_store.specs.Faults.{code_fault, error_fault, is_code_of_size, is_error_of_size, is_of_size, row_fault}
+use Rattle.dip_store.specs.Faults.{code_fault, error_fault, row_fault}
 
 not_memory : Memory ≡ Damaged → ⊥
 not_memory is = absurd (cc)
@@ -41,8 +41,8 @@ error_outside fault e (inr disk) is = error_of_disk e disk.0 is
 
 error_wanting : (fault : Type 0) (e : Error) → IsWant fault e → error_fault e ≡ Damaged → ⊥
 error_wanting fault e (inl outside) is = error_outside fault e outside is
-error_wanting fault e (inr (inl big)) is = told_as e Disk (SqliteFailure TooBig) big refl not_disk is
-error_wanting fault e (inr (inr full)) is = told_as e Disk (SqliteFailure NoRowid) full refl not_disk is
+error_wanting fault e (inr (inl big)) is = told_as e Memory (SqliteFailure TooBig) big refl not_memory is
+error_wanting fault e (inr (inr full)) is = told_as e Memory (SqliteFailure NoRowid) full refl not_memory is
 
 -- and the disk is told of only where there was a fault of it
 error_blamed : (fault : Type 0) (e : Error) → IsCaused fault e → error_fault e ≡ Disk → fault
@@ -66,22 +66,22 @@ make_outside fault Misfit rows.Memory fails fits is = not_memory is
 make_outside fault Misfit (rows.Sql e) fails fits is = error_wanting fault e fails is
 make_outside fault Misfit rows.Misfit fails fits is = fits fails
 
--- a change tells of the disk where there was a fault of it, or one of size
-code_caused : (fault : Type 0) (c : ErrorCode) → IsBlamed fault (SqliteFailure c) → code_fault c ≡ Disk → fault ⊎ (is_code_of_size c ≡ true)
+-- of any change the disk is told of only where there was a fault of it
+code_caused : (fault : Type 0) (c : ErrorCode) → IsBlamed fault (SqliteFailure c) → code_fault c ≡ Disk → fault
 code_caused fault OutOfMemory blamed is = absurd (let bad : Memory ≡ Disk = is in cc)
-code_caused fault SystemIoFailure blamed is = inl (blamed refl)
-code_caused fault DatabaseCorrupt blamed is = inl (blamed refl)
-code_caused fault DiskFull blamed is = inl (blamed refl)
-code_caused fault Closed blamed is = inl (blamed refl)
-code_caused fault TooBig blamed is = inr refl
-code_caused fault NoRowid blamed is = inr refl
+code_caused fault TooBig blamed is = absurd (let bad : Memory ≡ Disk = is in cc)
+code_caused fault NoRowid blamed is = absurd (let bad : Memory ≡ Disk = is in cc)
+code_caused fault SystemIoFailure blamed is = blamed refl
+code_caused fault DatabaseCorrupt blamed is = blamed refl
+code_caused fault DiskFull blamed is = blamed refl
+code_caused fault Closed blamed is = blamed refl
 code_caused fault _ blamed is = absurd (let bad : Damaged ≡ Disk = is in cc)
 
-error_caused : (fault : Type 0) (e : Error) → IsBlamed fault e → error_fault e ≡ Disk → fault ⊎ (is_error_of_size e ≡ true)
+error_caused : (fault : Type 0) (e : Error) → IsBlamed fault e → error_fault e ≡ Disk → fault
 error_caused fault (SqliteFailure c) blamed is = code_caused fault c blamed is
 error_caused fault _ blamed is = absurd (let bad : Damaged ≡ Disk = is in cc)
 
-pub make_caused : (fault : Type 0) (e : RowFault) → BlamesFor fault e → row_fault e ≡ Disk → fault ⊎ (is_of_size e ≡ true)
+pub make_caused : (fault : Type 0) (e : RowFault) → BlamesFor fault e → row_fault e ≡ Disk → fault
 make_caused fault rows.Memory blamed is = absurd (let bad : Memory ≡ Disk = is in cc)
 make_caused fault (rows.Sql e) blamed is = error_caused fault e blamed is
 make_caused fault rows.Misfit blamed is = absurd (let bad : Damaged ≡ Disk = is in cc)

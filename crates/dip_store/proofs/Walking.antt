@@ -5,7 +5,7 @@ use Rattle.dip_store.specs.Papers.{AreBegun, BreaksOff, Walks, WritesPapers, fau
 use Rattle.dip_store.specs.declared.paper_faults.PaperFault.{PaperFault}
 use Rattle.dip_store.specs.declared.paper_faults.PaperFault.TheVariants.{Write, Keep}
 use Rattle.dip_map.specs.Charts.{Chart}
-use Rattle.dip_desk_keeper.specs.Keeping.{Book, Ends, IsOpen, Looks, Rises}
+use Rattle.dip_desk_keeper.specs.Keeping.{Book, Ends, IsOpen, Looks, WasTold}
 use Rattle.dip_desk_state.specs.Bounds.{most_papers}
 use Rattle.dip_desk_state.specs.Faults.{faults_with}
 use Rattle.dip_desk_state.specs.State.{Game, State, game_at}
@@ -46,7 +46,7 @@ module _ {K : Type 0} (m : Chart) (b : Book K) where
 
   module _ (X Y : Type 0) (x : X) (a c d : K) (so_far : Walks m b a c (went X x)) where
     -- the keeper shows still, or the store told of a fault in this look or before it
-    shut : (Z : Type 0) (r : Result Z KeepFault) (V : Z → Type 0) (D : Type 0) → Looks m b c d V D r → b.honest d → b.shows a → b.shows d ⊎ Rises (b.told a) (b.told d)
+    shut : (Z : Type 0) (r : Result Z KeepFault) (V : Z → Type 0) (D : Type 0) → Looks m b c d V D r → b.honest d → b.shows a → b.shows d ⊎ WasTold b a d
     shut Z r V D look h o = elim (so_far.shuts (look.keeps.fair h) o) [
       | inl on ↦ elim (look.keeps.shuts h on) [
         | inl still ↦ inl still

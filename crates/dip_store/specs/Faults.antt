@@ -1,5 +1,4 @@
 -- The keeper's fault for a fault of the database.
-use Rattle.std.specs.Prelude.{Bool, true, false}
 use Rattle.sqlite.specs.declared.error.Error.{Error}
 use Rattle.sqlite.specs.declared.error.Error.TheVariants.{SqliteFailure}
 use Rattle.sqlite.specs.declared.error.ErrorCode.{ErrorCode}
@@ -10,15 +9,15 @@ use Rattle.dip_desk_state.specs.declared.faults.KeepFault.{KeepFault}
 use Rattle.dip_desk_state.specs.declared.faults.KeepFault.TheVariants.{Memory, Disk, Damaged}
 pub use Rattle.dip_store_schema.specs.Faults.{store_fault_name}
 
--- want of memory; a fault of the disk, want of room on it, or a store that such a fault has shut before; anything else shows that the tables
--- aren't a desk's
+-- want of memory, or of room for a row, which is too long to be stored or finds no number left; a fault of the disk, want of room on it, or
+-- a store that such a fault has shut before; anything else shows that the tables aren't a desk's
 abbrev pub code_fault : ErrorCode → KeepFault
 code_fault OutOfMemory = Memory
+code_fault TooBig = Memory
+code_fault NoRowid = Memory
 code_fault SystemIoFailure = Disk
 code_fault DatabaseCorrupt = Disk
 code_fault DiskFull = Disk
-code_fault TooBig = Disk
-code_fault NoRowid = Disk
 code_fault Closed = Disk
 code_fault _ = Damaged
 
@@ -31,18 +30,3 @@ abbrev pub row_fault : RowFault → KeepFault
 row_fault rows.Memory = Memory
 row_fault (rows.Sql error) = error_fault error
 row_fault rows.Misfit = Damaged
-
--- a row that is too long to be stored, or no number left for one
-abbrev pub is_code_of_size : ErrorCode → Bool
-is_code_of_size TooBig = true
-is_code_of_size NoRowid = true
-is_code_of_size _ = false
-
-abbrev pub is_error_of_size : Error → Bool
-is_error_of_size (SqliteFailure code) = is_code_of_size code
-is_error_of_size _ = false
-
-abbrev pub is_of_size : RowFault → Bool
-is_of_size rows.Memory = false
-is_of_size (rows.Sql error) = is_error_of_size error
-is_of_size rows.Misfit = false

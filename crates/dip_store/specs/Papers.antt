@@ -5,7 +5,7 @@ use Rattle.std.specs.Io.KnownBytes.{Appends}
 use Rattle.dip_store.specs.declared.paper_faults.PaperFault.{PaperFault}
 use Rattle.dip_store.specs.declared.paper_faults.PaperFault.TheVariants.{Write, Keep}
 use Rattle.dip_map.specs.Charts.{Chart}
-use Rattle.dip_desk_keeper.specs.Keeping.{Book, Ends, IsOpen, Rises}
+use Rattle.dip_desk_keeper.specs.Keeping.{Book, Ends, IsOpen, WasTold}
 use Rattle.dip_desk_state.specs.Bounds.{most_papers}
 use Rattle.dip_desk_state.specs.Faults.{faults_with, keep_fault_name}
 use Rattle.dip_desk_state.specs.State.{Game, State, game_at}
@@ -62,9 +62,9 @@ pub record Walks {K X : Type 0} (m : Chart) (b : Book K) (old new : K) (result :
   pub same : b.sound m old → b.shows new → b.content m new ≡ b.content m old
   pub firm : b.sound m old → b.honest new → OnShown result (b.sound m new)
   pub stays_open : b.sound m old → b.honest new → b.shows old → OnShown result (b.shows new)
-  pub shuts : b.honest new → b.shows old → b.shows new ⊎ Rises (b.told old) (b.told new)
+  pub shuts : b.honest new → b.shows old → b.shows new ⊎ WasTold b old new
   -- the disk is told of only where the store told of a fault of it
-  pub failed : b.sound m old → b.honest new → b.shows old → IsErrOf result (Keep Disk) → Rises (b.told old) (b.told new)
+  pub failed : b.sound m old → b.honest new → b.shows old → IsErrOf result (Keep Disk) → WasTold b old new
   pub left : b.sound m old → b.honest new → (s : State) → b.may_leave m new s → b.may_leave m old s
   pub again : b.sound m old → b.honest new → b.shows old → b.again m old → b.again m new
 
@@ -82,7 +82,7 @@ pub record WritesPapers {K X : Type 0} (m : Chart) (b : Book K) (game : List ℕ
       × Out x (game_at game (b.content m old)))
   pub ends : IsOpen m b old → b.honest new → OnErr result (BreaksOff m b game old new before after)
   pub damaged : IsOpen m b old → b.honest new → IsErrOf result (Keep Damaged) → most_papers < length (papers_of (game_at game (b.content m old)))
-  pub failed : IsOpen m b old → b.honest new → IsErrOf result (Keep Disk) → Rises (b.told old) (b.told new)
+  pub failed : IsOpen m b old → b.honest new → IsErrOf result (Keep Disk) → WasTold b old new
   pub count : b.faults new ≡ faults_told result (b.faults old)
   pub fair : b.honest new → b.honest old
   pub same_map : b.map_sum new ≡ b.map_sum old

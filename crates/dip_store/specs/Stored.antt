@@ -1,5 +1,5 @@
 -- What contracts see of a keeper over a store.
-use Rattle.std.specs.Prelude.{◌≡◌, ◌+◌, ◌-◌, ◌^◌, ℕ, Bool, List, [], true, false, nat_lt, if◌then◌else◌}
+use Rattle.std.specs.Prelude.{◌≡◌, ℕ, List, []}
 use Rattle.std.specs.declared.alloc.Global.{Global}
 use Rattle.sqlite.specs.Effect.{Database}
 use Rattle.sqlite.specs.Tree.{Trees}
@@ -34,7 +34,6 @@ fresh_keeper alloc conn map_sum = record {
   conn = conn;
   map_sum = map_sum;
   failures = 0;
-  of_size = 0;
   seen = [];
   owns = [];
   idle = [];
@@ -45,15 +44,6 @@ abbrev pub telling : {S : Type 0} → KeepFault → SqlKeeper S → SqlKeeper S
 telling Memory k = k
 telling Disk k = record k { failures = next_count k.failures }
 telling Damaged k = k
-
--- a count with one more fault of size, up to its greatest
-abbrev pub sized : Bool → ℕ → ℕ
-sized false n = n
-sized true n = if nat_lt n (2 ^ 64 - 1) then n + 1 else n
-
--- a keeper whose store may have told it of one
-abbrev pub sizing : {S : Type 0} → Bool → SqlKeeper S → SqlKeeper S
-sizing is_one k = record k { of_size = sized is_one k.of_size }
 
 -- a database that keepers alone have written, by this map
 pub record IsStore (m : Chart) (db : Database) : Type 0 where
@@ -83,7 +73,6 @@ book g = record {
   map_sum = λ k. k.map_sum;
   faults = λ k. k.failures;
   told = λ k. (state g k.conn).faults;
-  of_size = λ k. k.of_size;
   honest = λ k. is_honest g k.conn;
   shows = λ k. does_show g k.conn;
   sound = λ m k. IsKept g k.conn × AreOurs m (tables_in g k.conn) × Recalls (said_by m (state g k.conn).now.trees) k.seen × RecallsOwns (said_by m (state g k.conn).now.trees) k.owns

@@ -6,18 +6,16 @@ use dip_desk_state::KeepFault;
 use dip_store_sql::RowFault;
 use sqlite::{Error, ErrorCode};
 
-/// The keeper's fault for a failure of the database: want of memory, a fault of the disk or want of room on it, or that a fault of the
-/// disk has shut it before; any other shows that the tables aren't a desk's.
+/// The keeper's fault for a failure of the database: want of memory or of room for a row; a fault of the disk, want of room on it, or that
+/// such a fault has shut the store before; any other shows that the tables aren't a desk's.
 fn code_fault(code: ErrorCode) -> KeepFault
     ensures { result ≡ told.code_fault code }
 {
     match code {
-        ErrorCode::OutOfMemory => KeepFault::Memory,
+        ErrorCode::OutOfMemory | ErrorCode::TooBig | ErrorCode::NoRowid => KeepFault::Memory,
         ErrorCode::SystemIoFailure
         | ErrorCode::DatabaseCorrupt
         | ErrorCode::DiskFull
-        | ErrorCode::TooBig
-        | ErrorCode::NoRowid
         | ErrorCode::Closed => KeepFault::Disk,
         _ => KeepFault::Damaged,
     }
@@ -41,35 +39,5 @@ pub(crate) fn row_fault(fault: RowFault) -> KeepFault
         RowFault::Memory => KeepFault::Memory,
         RowFault::Sql(error) => error_fault(error),
         RowFault::Misfit => KeepFault::Damaged,
-    }
-}
-
-/// Whether this says that a row is too long to be stored, or that no number is left for one.
-fn is_code_of_size(code: ErrorCode) -> bool
-    ensures { result ≡ told.is_code_of_size code }
-{
-    match code {
-        ErrorCode::TooBig | ErrorCode::NoRowid => true,
-        _ => false,
-    }
-}
-
-/// Whether the database says so.
-fn is_error_of_size(error: &Error) -> bool
-    ensures { result ≡ told.is_error_of_size error.now }
-{
-    match error {
-        Error::SqliteFailure(code) => is_code_of_size(*code),
-        _ => false,
-    }
-}
-
-/// Whether a change met a fault of size.
-pub(crate) fn is_of_size(fault: &RowFault) -> bool
-    ensures { result ≡ told.is_of_size fault.now }
-{
-    match fault {
-        RowFault::Sql(error) => is_error_of_size(error),
-        RowFault::Memory | RowFault::Misfit => false,
     }
 }

@@ -1,10 +1,9 @@
 //! A keeper over an SQL store.
 ghost use Rattle.std.specs.Prelude.{◌≡◌};
-ghost use Rattle.dip_store.specs.Faults as told;
 ghost use Rattle.dip_store.specs.Stored as stored;
 
 use crate::authors::known_author;
-use crate::faults::{is_of_size, row_fault};
+use crate::faults::row_fault;
 use crate::fitting_laws::{what_fits_can_be_written, what_fits_finds_place};
 use crate::papers::look_game_paper;
 use crate::shared::look_shared_public;
@@ -14,7 +13,6 @@ use dip_map::{Map, Power};
 use dip_store_changes::{changes_are_made, make};
 use dip_store_looks::{look_desk, look_digest, look_items, look_own, look_whole};
 use dip_store_memory::{IdleSeats, SeenGames, SeenOwns};
-use dip_store_sql::RowFault;
 use dip_store_tables::{
     has_texts, has_widths, is_writable, own_is_found, page_is_found, tables_stay_counted,
     tables_stay_legible,
@@ -44,9 +42,6 @@ pub struct SqlKeeper<S: Alter> {
     pub(crate) map_sum: [u8; 32],
     /// How many faults of the disk it has told of.
     pub(crate) failures: u64,
-    /// How many faults of size its store has told it of: a row that is too long to be stored, or no number left for one. Only
-    /// `told_by_store` raises it, and it stops at its greatest.
-    pub(crate) of_size: u64,
     /// The public parts that it has seen, as its rows have them.
     pub(crate) seen: SeenGames,
     /// The own parts that it has seen, as its rows have them.
@@ -65,7 +60,6 @@ impl<S: Alter> SqlKeeper<S> {
             conn,
             map_sum: _,
             failures: _,
-            of_size: _,
             seen: _,
             owns: _,
             idle: _,
@@ -84,27 +78,6 @@ impl<S: Alter> SqlKeeper<S> {
             KeepFault::Damaged => {}
         }
         fault
-    }
-
-    /// Counts a fault of size that the store told of.
-    fn count_size(&mut self, is_one: bool)
-        ensures { self.new ≡ stored.sizing is_one self.old }
-    {
-        if is_one {
-            if self.of_size < u64::MAX {
-                self.of_size += 1;
-            }
-        }
-    }
-
-    /// Tells what the store told of a change.
-    fn told_by_store(&mut self, fault: RowFault) -> KeepFault
-        ensures same { result ≡ told.row_fault fault }
-        ensures told { self.new ≡ stored.telling (told.row_fault fault)
-            (stored.sizing (told.is_of_size fault) self.old) }
-    {
-        self.count_size(is_of_size(&fault));
-        self.told(row_fault(fault))
     }
 }
 
@@ -222,7 +195,7 @@ impl<S: Alter> Keeper for SqlKeeper<S> {
                 self.seen.note_after(self.alloc, change, was_seen);
                 Ok(())
             }
-            Err(fault) => Err(self.told_by_store(fault)),
+            Err(fault) => Err(self.told(row_fault(fault))),
         }
     }
 }

@@ -34,7 +34,6 @@ impl<S: Alter> SqlKeeper<S> {
             conn,
             map_sum,
             failures: 0,
-            of_size: 0,
             seen: SeenGames::new(alloc),
             owns: SeenOwns::new(alloc),
             idle: IdleSeats::new(alloc),

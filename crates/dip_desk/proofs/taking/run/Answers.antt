@@ -100,7 +100,7 @@ returns-in-Err-take g c =
           c.lawful_states_stay_lawful.ensures.sane _ n _ (said_each IsMail (λ l. mail l) c.args.letters.now c.loop-letter.letter-index _ (omega arith) c.requires) (i.lawful it before lawful) (took.damaged on.sound honest on.shows (ap (λ (e : KeepFault). Err e) bad));
       failed = λ it honest bad.
           let on = i.goes it (took.keeps.fair honest) in
-          told_late b c.args.keeper.now c.loop-letter.keeper c.take.new.keeper kept.told kept.of_size (took.failed on.sound honest on.shows (ap (λ (e : KeepFault). Err e) bad));
+          told_late b c.args.keeper.now c.loop-letter.keeper c.take.new.keeper kept.told (took.failed on.sound honest on.shows (ap (λ (e : KeepFault). Err e) bad));
       lawful = λ it honest shows lawful.
           let before = took.keeps.fair honest in
           subst (IsLawful m) (sym (took.undone (i.goes it before).sound shows)) (i.lawful it before lawful);

@@ -11,7 +11,6 @@ clients-init g c = record {
   fair = λ honest. honest;
   same_map = refl;
   told = omega arith;
-  of_size = omega arith;
   ends = λ it honest. meets_none c.args.map.now g.K.Keeper.book c.args.keeper.now it;
   met = λ it honest shows. record { opens = it; meets = refl; lawful = λ lawful. lawful };
 }
@@ -59,7 +58,7 @@ returns-in_err-serve_next g c =
           call.never so.opens honest (so.lawful lawful) (cc);
       failed = λ it honest bad.
           let so = i.ends it (call.fair honest) in
-          told_next m b c.clients.served c.args.keeper.now c.clients.keeper c.serve_next.new.keeper so i.told call.told i.of_size (λ mid. call.failed mid honest (cc));
+          told_next m b c.clients.served c.args.keeper.now c.clients.keeper c.serve_next.new.keeper so i.told call.told (λ mid. call.failed mid honest (cc));
       shut = call.shut;
       count = search rules;
       fair = λ honest. i.fair (call.fair honest);
@@ -78,7 +77,6 @@ clients-preserved g c =
       fair = λ honest. before.fair (call.fair honest);
       same_map = call.same_map ∙ before.same_map;
       told = omega (arith, before.told, call.told);
-      of_size = omega (arith, before.of_size, call.of_size);
       ends = λ it honest. meets_next m b c.clients.served c.args.keeper.now c.clients.keeper c.serve_next.new.keeper (before.ends it (call.fair honest)) before.told call.told (λ mid. call.ends mid honest);
       met = λ it honest shows.
           let so = before.met it (call.fair honest) (call.shown shows) in

@@ -11,7 +11,6 @@ invariant-clients g l = let b = g.K.Keeper.book in record {
   fair : b.honest l.keeper → b.honest l.fn.keeper;
   same_map : b.map_sum l.keeper ≡ b.map_sum l.fn.keeper;
   told : b.told l.fn.keeper ≤ b.told l.keeper;
-  of_size : b.of_size l.fn.keeper ≤ b.of_size l.keeper;
   ends : IsOpen l.fn.map b l.fn.keeper → b.honest l.keeper → MeetsTo l.fn.map b l.served l.fn.keeper l.keeper;
   met : IsOpen l.fn.map b l.fn.keeper → b.honest l.keeper → b.shows l.keeper → HasMet l.fn.map b l.served l.fn.keeper l.keeper;
 }

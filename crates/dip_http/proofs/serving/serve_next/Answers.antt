@@ -11,7 +11,6 @@ returns-in_default g c = record {
   shut = search rules;
   count = search rules;
   told = search rules;
-  of_size = search rules;
   fair = search rules;
   same_map = search rules;
   shown = search rules;

@@ -1,10 +1,11 @@
 use Rattle.std.proofs.Common.{Err, ap, refl, subst, sym}
 use Rattle.dip_desk_machine.specs.Lawful.{IsLawful}
 use Rattle.dip_judge_runs.specs.declared.run.RunFault.{RunFault}
-use Rattle.dip_judge_commands.proofs.LastingLemmas.{answers_last, damage_run, run_text, shut_lawful, stops_last}
-use Rattle.dip_judge_commands.proofs.StoredLemmas.{answers_from, is_open, shut_by, stops_from}
+use Rattle.dip_judge_commands.proofs.LastingLemmas.{answers_last, damage_run, disk_run, run_text, shut_lawful, stops_last}
+use Rattle.dip_judge_commands.proofs.StoredLemmas.{answers_from, blamed, is_open, shut_by, stops_from}
 use Rattle.dip_store.proofs.Opened.{leaves_text}
 use Rattle.dip_store.specs.Opening.{IsNowOf}
+use Rattle.dip_judge_commands.specs.declared.failures.Failure.TheVariants.{Run}
 use Rattle.dip_judge_commands.proofs.stored.answer_stored.Goals as goal
 
 pub returns-in-Ok-run_file-clause-done : goal.returns-in-Ok-run_file-clause-done
@@ -24,8 +25,12 @@ returns-in-Err-run_file-clause-stops g c =
     rw c.into_store-in-Err-run_file.ensures
     (λ clean s desk.
     let opened = c.in-Ok.ensures.opened (c.run_file.ensures.fair clean) s desk.says in
-    stops_from g.S.Store m s k c.run_file.new.keeper _ _ _ _ opened (IsNowOf g.S.Store c.args.store) c.args.store c.in-Ok.ensures.counted c.in-Err-run_file.fault
-    (c.in-Err-run_file.ensures.ends (is_open g.S.Store m s k opened) clean))
+    let still = is_open g.S.Store m s k opened in
+    let fault = c.in-Err-run_file.fault in
+    stops_from g.S.Store m s k c.run_file.new.keeper _ _ _ _ opened (IsNowOf g.S.Store c.args.store) c.args.store c.in-Ok.ensures.counted fault
+    (blamed g.S.Store c.args.store k c.run_file.new.keeper (Run fault) c.in-Ok.ensures.counted
+    (λ bad. c.in-Err-run_file.ensures.failed still clean (ap (λ (f : RunFault). Err f) (disk_run fault bad))))
+    (c.in-Err-run_file.ensures.ends still clean))
 
 pub returns-in-Err-clause-stops : goal.returns-in-Err-clause-stops
 returns-in-Err-clause-stops g c = λ honest s desk. ((refl, refl), c.in-Err.ensures.ends honest s desk)
@@ -70,6 +75,8 @@ returns-in-Err-run_file-clause-lasts g c =
           (run_text g.S.Store m c.args.text.now c.args.store k c.run_file.new.keeper (leaves_text g.S.Store m c.args.text.now k c.run_file.new.keeper c.in-Ok.ensures.of_map c.run_file.ensures.same_map) fault _ _ _ _
           opened.again (c.in-Err-run_file.ensures.ends still clean))
           (stops_from g.S.Store m s k c.run_file.new.keeper _ _ _ _ opened (IsNowOf g.S.Store c.args.store) c.args.store c.in-Ok.ensures.counted fault
+          (blamed g.S.Store c.args.store k c.run_file.new.keeper (Run fault) c.in-Ok.ensures.counted
+          (λ bad. c.in-Err-run_file.ensures.failed still clean (ap (λ (f : RunFault). Err f) (disk_run fault bad))))
           (c.in-Err-run_file.ensures.ends still clean));
     })
 

@@ -1,10 +1,11 @@
 use Rattle.std.proofs.Common.{Err, ap, refl, subst, sym}
 use Rattle.dip_desk_machine.specs.Lawful.{IsLawful}
 use Rattle.dip_store.specs.declared.paper_faults.PaperFault.{PaperFault}
-use Rattle.dip_judge_commands.proofs.LastingLemmas.{damage_papers, ends_lawful, few_papers, holds_lawful, shut_lawful}
-use Rattle.dip_judge_commands.proofs.StoredLemmas.{breaks_off, ends_still, holds_still, is_open, reports, reports_none, shut_by}
+use Rattle.dip_judge_commands.proofs.LastingLemmas.{damage_papers, disk_papers, ends_lawful, few_papers, holds_lawful, shut_lawful}
+use Rattle.dip_judge_commands.proofs.StoredLemmas.{blamed, breaks_off, ends_still, holds_still, is_open, reports, reports_none, shut_by}
 use Rattle.dip_store.proofs.Opened.{leaves_text}
 use Rattle.dip_store.specs.Opening.{IsNowOf}
+use Rattle.dip_judge_commands.specs.declared.failures.Failure.TheVariants.{Papers}
 use Rattle.dip_judge_commands.proofs.stored.report_stored.Goals as goal
 
 pub returns-in-Ok-Some-clause-done : goal.returns-in-Ok-Some-clause-done
@@ -28,7 +29,7 @@ returns-in-Ok-None-clause-stops g c =
     let opened = c.in-Ok.ensures.opened (c.write_papers.ensures.fair clean) s desk.says in
     let goes = rw c.in-Ok-None.field-0-is at (c.in-Ok-None.ensures.goes (is_open g.S.Store m s k opened) clean) in
     let holds = holds_still g.S.Store m s k c.write_papers.new.self opened goes.0 goes.1 in
-    (reports_none c.args.game.now _ _ _ _ opened.says goes.2, ends_still g.S.Store m _ _ _ _ holds))
+    (reports_none c.args.game.now _ _ _ _ opened.says goes.2, λ bad. absurd bad, ends_still g.S.Store m _ _ _ _ holds))
 
 pub returns-in-Err-write_papers-clause-stops : goal.returns-in-Err-write_papers-clause-stops
 returns-in-Err-write_papers-clause-stops g c =
@@ -37,8 +38,12 @@ returns-in-Err-write_papers-clause-stops g c =
     rw c.into_store-in-Err-write_papers.ensures
     (λ clean s desk.
     let opened = c.in-Ok.ensures.opened (c.write_papers.ensures.fair clean) s desk.says in
-    breaks_off g.S.Store m c.args.game.now (IsNowOf g.S.Store c.args.store) c.args.store s k c.write_papers.new.self c.in-Err-write_papers.fault _ _ opened c.in-Ok.ensures.counted
-    (c.in-Err-write_papers.ensures.ends (is_open g.S.Store m s k opened) clean))
+    let still = is_open g.S.Store m s k opened in
+    let fault = c.in-Err-write_papers.fault in
+    breaks_off g.S.Store m c.args.game.now (IsNowOf g.S.Store c.args.store) c.args.store s k c.write_papers.new.self fault _ _ opened c.in-Ok.ensures.counted
+    (blamed g.S.Store c.args.store k c.write_papers.new.self (Papers fault) c.in-Ok.ensures.counted
+    (λ bad. c.in-Err-write_papers.ensures.failed still clean (ap (λ (f : PaperFault). Err f) (disk_papers fault bad))))
+    (c.in-Err-write_papers.ensures.ends still clean))
 
 pub returns-in-Err-clause-stops : goal.returns-in-Err-clause-stops
 returns-in-Err-clause-stops g c = λ honest s desk. (refl, c.in-Err.ensures.ends honest s desk)
@@ -87,12 +92,14 @@ returns-in-Err-write_papers-clause-lasts g c =
     let opened = c.in-Ok.ensures.opened (c.write_papers.ensures.fair clean) s desk.says in
     let still = is_open g.S.Store m s k opened in
     let ends = breaks_off g.S.Store m c.args.game.now (IsNowOf g.S.Store c.args.store) c.args.store s k c.write_papers.new.self fault _ _ opened c.in-Ok.ensures.counted
+    (blamed g.S.Store c.args.store k c.write_papers.new.self (Papers fault) c.in-Ok.ensures.counted
+    (λ bad. c.in-Err-write_papers.ensures.failed still clean (ap (λ (f : PaperFault). Err f) (disk_papers fault bad))))
     (c.in-Err-write_papers.ensures.ends still clean) in
     record {
       never = λ bad. few_papers m _ c.args.game.now (subst (IsLawful m) (sym opened.says) law)
           (c.in-Err-write_papers.ensures.damaged still clean (ap (λ (f : PaperFault). Err f) (damage_papers fault bad)));
       left = ends_lawful g.S.Store m c.args.text.now _ s (λ _. ⊥) _ law (λ t none. absurd none)
-          (leaves_text g.S.Store m c.args.text.now k c.write_papers.new.self c.in-Ok.ensures.of_map c.write_papers.ensures.same_map (c.in-Err-write_papers.ensures.ends still clean).ends.again) ends.1;
+          (leaves_text g.S.Store m c.args.text.now k c.write_papers.new.self c.in-Ok.ensures.of_map c.write_papers.ensures.same_map (c.in-Err-write_papers.ensures.ends still clean).ends.again) ends.2;
     })
 
 pub returns-in-Err-clause-lasts : goal.returns-in-Err-clause-lasts

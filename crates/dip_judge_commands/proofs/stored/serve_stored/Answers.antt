@@ -1,8 +1,10 @@
-use Rattle.std.proofs.Common.{inl, refl, subst, sym}
+use Rattle.std.proofs.Common.{Err, ap, inl, refl, subst, sym}
 use Rattle.dip_desk_machine.specs.Lawful.{IsLawful}
-use Rattle.dip_judge_commands.proofs.LastingLemmas.{both_last, clients_text, holds_lawful, served_last, serving_last, shut_lawful, some_text, undamaged}
-use Rattle.dip_judge_commands.proofs.StoredLemmas.{ends_still, holds, is_open, serves_from, serves_up_to, shut_by}
+use Rattle.dip_judge_commands.proofs.LastingLemmas.{both_last, clients_text, disk_serving, holds_lawful, served_last, serving_last, shut_lawful, some_text, undamaged}
+use Rattle.dip_judge_commands.proofs.StoredLemmas.{blamed, ends_still, holds, is_open, serves_from, serves_up_to, shut_by}
 use Rattle.dip_store.proofs.Opened.{leaves_text}
+use Rattle.dip_desk_state.specs.declared.faults.KeepFault.{KeepFault}
+use Rattle.dip_judge_commands.specs.declared.failures.Failure.TheVariants.{Serving}
 use Rattle.dip_judge_commands.proofs.stored.serve_stored.Goals as goal
 
 pub returns-in-Ok-serve_all-clause-done : goal.returns-in-Ok-serve_all-clause-done
@@ -22,8 +24,13 @@ returns-clause-stops g c =
     rw c.into_store-in-Err-serve_all.ensures
     (λ clean s desk.
     let opened = c.in-Ok.ensures.opened (c.serve_all.ensures.fair clean) s desk.says in
-    serves_up_to g.S.Store m c.args.store c.args.count s k c.serve_all.new.keeper opened c.in-Ok.ensures.counted
-    (c.serve_all.ensures.ends (is_open g.S.Store m s k opened) clean))
+    let still = is_open g.S.Store m s k opened in
+    let fault = c.in-Err-serve_all.fault in (
+      blamed g.S.Store c.args.store k c.serve_all.new.keeper (Serving fault) c.in-Ok.ensures.counted
+      (λ bad. c.in-Err-serve_all.ensures.failed still clean (ap (λ (f : KeepFault). Err f) (disk_serving fault bad))),
+      serves_up_to g.S.Store m c.args.store c.args.count s k c.serve_all.new.keeper opened c.in-Ok.ensures.counted
+      (c.serve_all.ensures.ends still clean),
+    ))
 
 pub returns-in-Err-listen_on-clause-stops : goal.returns-in-Err-listen_on-clause-stops
 returns-in-Err-listen_on-clause-stops g c =

@@ -21,7 +21,6 @@ letters-preserved g c =
       same_map = goes.same_map ∙ i.same_map;
       goes = λ it honest. goes.opens (i.goes it (goes.fair honest)) honest;
       told = omega (arith, i.told, goes.told);
-      of_size = omega (arith, i.of_size, goes.of_size);
       lawful = λ it honest lawful. let before = goes.fair honest in goes.lawful (i.goes it before) honest (i.lawful it before lawful);
       so_far = λ it honest.
           let before = goes.fair honest in
@@ -40,7 +39,6 @@ letters-init g c = record {
   same_map = refl;
   goes = λ it honest. it;
   told = omega arith;
-  of_size = omega arith;
   lawful = λ it honest lawful. lawful;
   so_far = λ it honest. ([], front_of c.args.map.now (c.published_movements_are_decided.ensures c.args.map.now) c.args.input.now _, search rules);
 }
@@ -60,7 +58,7 @@ returns-in_err-step g c =
           f.never on honest (i.lawful it (f.fair honest) lawful) (cc);
       failed = λ it honest disk.
           let on = i.goes it (f.fair honest) in
-          told_late b c.args.keeper.now c.letters.keeper c.step.new.keeper i.told i.of_size (f.told on honest (cc));
+          told_late b c.args.keeper.now c.letters.keeper c.step.new.keeper i.told (f.told on honest (cc));
       ends = λ it honest.
           let on = i.goes it (f.fair honest) in
           let so_far = i.so_far it (f.fair honest) in

@@ -15,7 +15,6 @@ invariant-letters g l = let b = g.K.Keeper.book in record {
   same_map : b.map_sum l.keeper ≡ b.map_sum l.fn.keeper;
   goes : IsOpen l.fn.map b l.fn.keeper → b.honest l.keeper → IsOpen l.fn.map b l.keeper;
   told : b.told l.fn.keeper ≤ b.told l.keeper;
-  of_size : b.of_size l.fn.keeper ≤ b.of_size l.keeper;
   lawful : IsOpen l.fn.map b l.fn.keeper → b.honest l.keeper → IsLawful l.fn.map (b.content l.fn.map l.fn.keeper) → IsLawful l.fn.map (b.content l.fn.map l.keeper);
   so_far : IsOpen l.fn.map b l.fn.keeper → b.honest l.keeper → (replies : List Reply)
       × AnswersFront l.fn.map l.fn.input (b.content l.fn.map l.fn.keeper) (b.content l.fn.map l.keeper) replies l.rest

@@ -56,11 +56,14 @@ module _ {S : Type 0} (g : Ghosts S) (m : Chart) (old : State) (k kept : SqlKeep
     -- a run that stopped
     pub stops_from : BlamesDisk Fault (Run fault) → IsUntouched before after k kept ⊎ ((input : List ℕ) × IsReadWhole known left input × StopsAt m (book g) fault input k kept before after)
         → StopsFrom g m Fault Was old kept.conn known left before after (Run fault)
-    stops_from blames (inl nothing) = (blames, inl (
-      nothing.written,
-      ends_held g m store k kept old (λ _. ⊥) counted
-          (subst (λ (k_end : SqlKeeper S). Ends m (book g) k k_end old (λ _. ⊥)) (sym nothing.kept) (subst (λ s. Ends m (book g) k k s (λ _. ⊥)) opened.says (ends_open m (book g) k k (λ _. ⊥) (is_open g m old k opened)))),
-    ))
+    stops_from blames (inl nothing) = (
+      blames,
+      inl (
+        nothing.written,
+        ends_held g m store k kept old (λ _. ⊥) counted
+            (subst (λ (k_end : SqlKeeper S). Ends m (book g) k k_end old (λ _. ⊥)) (sym nothing.kept) (subst (λ s. Ends m (book g) k k s (λ _. ⊥)) opened.says (ends_open m (book g) k k (λ _. ⊥) (is_open g m old k opened)))),
+      ),
+    )
     stops_from blames (inr run) = (blames, inr (run.0, run.1, stopped run.0 run.2))
 
 -- why a store isn't opened
@@ -211,13 +214,16 @@ module _ {S : Type 0} (g : Ghosts S) (m : Chart) (F G : Type 0) (turn : F → G)
   serving_as count (Store fault) it = shut_as g m F G turn new old Was Will will it
   serving_as count NoMemory it = ends_as g m F G turn new old _ it
   serving_as count Listen it = ends_as g m F G turn new old _ it
-  serving_as count (Serving fault) (blames, it) = (λ bad. turn (blames bad), record {
-    n = it.n;
-    most = it.most;
-    state = it.state;
-    serves = it.serves;
-    ends = elim it.ends [ inl ends ↦ inl (ends_as g m F G turn new it.state _ ends) | inr fault ↦ inr (turn fault) ];
-  })
+  serving_as count (Serving fault) (blames, it) = (
+    λ bad. turn (blames bad),
+    record {
+      n = it.n;
+      most = it.most;
+      state = it.state;
+      serves = it.serves;
+      ends = elim it.ends [ inl ends ↦ inl (ends_as g m F G turn new it.state _ ends) | inr fault ↦ inr (turn fault) ];
+    },
+  )
   serving_as count (Usage fault) it = absurd it
   serving_as count (Map fault) it = absurd it
   serving_as count (Run fault) it = absurd it

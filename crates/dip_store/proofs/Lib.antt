@@ -12,5 +12,6 @@ pub mod Opened
 pub mod Outside
 pub mod Numbers
 pub mod Parts
+pub mod Recalled
 pub mod Walking
 pub mod Renewal

@@ -41,7 +41,7 @@ use Rattle.dip_store_counts.specs.Knowing.{IsKeptFor, IsKnown, IsUnordered, is_u
 use Rattle.dip_store_counts.specs.declared.known.KnownAuthor.{KnownAuthor}
 use Rattle.dip_store_memory.specs.Idle.{Idle, RecallsIdle}
 use Rattle.dip_store_memory.specs.Owns.{Owns, RecallsOwns, owns_of}
-use Rattle.dip_store_memory.specs.Seen.{DifferByName, Parts, Recalls}
+use Rattle.dip_store_memory.specs.Seen.{DifferByName, Parts, Recalls, replaced_papers}
 use Rattle.dip_store.proofs.Marked.{changed_says}
 use Rattle.dip_store.specs.Stored.{AreStored, SaysMap, book, said_by, telling}
 use Rattle.dip_store.specs.declared.keeper.SqlKeeper.{SqlKeeper}
@@ -49,6 +49,7 @@ use Rattle.dip_store.proofs.Outside.{make_caused, make_outside}
 use Rattle.dip_store_memory.proofs.Seeing.{Heeds}
 use Rattle.dip_store.specs.Authors.{known_among}
 use Rattle.dip_store.proofs.Authoring.{known_of}
+use Rattle.dip_store.proofs.Recalled.{papers_known}
 
 -- in what tables say no two games have one name
 differ_by_name : (m : Chart) (db : Database) → IsGood db → DifferByName (said_by m db.trees).games
@@ -63,11 +64,13 @@ module _ {S : Type 0} (g : Ghosts S) (m : Chart) (k : SqlKeeper S) (c : Change) 
   Keeps = IsKept g k.conn × AreOurs m (tables_in g k.conn) × Recalls (said_by m (state g k.conn).now.trees) k.seen × RecallsOwns (said_by m (state g k.conn).now.trees) k.owns × RecallsIdle (said_by m (state g k.conn).now.trees) k.idle
       × SaysMap k.map_sum (state g k.conn).now.trees
 
-  -- what is known of the author is what the tables have of it
-  pub knows : OwnIsFound m → IsAuthorOf m c.author → (known : Option KnownAuthor) → known ≡ known_among c.author (owns_of c.game k.owns) → Keeps → IsKeptFor g known m c k.conn
-  knows law author known is keeps =
+  -- what is known of the author and of the game's papers is what the tables have of them
+  pub knows : OwnIsFound m → IsAuthorOf m c.author → (who : Option KnownAuthor) (papers : Option ℕ) → who ≡ known_among c.author (owns_of c.game k.owns) → papers ≡ replaced_papers c k.seen → Keeps
+      → IsKeptFor g (record { author = who; papers = papers }) m c k.conn
+  knows law author who papers is count keeps =
       let t = tables_in g k.conn in
-      (keeps.0, subst (λ (x : Option KnownAuthor). IsKnown (row_known x) m c.author c.game t.seats × IsUnordered (is_unordered x) m c.author c.game t.pending) (sym is) (known_of m c.author c.game t k.owns law keeps.1.coded author keeps.3))
+      let both = subst (λ (x : Option KnownAuthor). IsKnown (row_known x) m c.author c.game t.seats × IsUnordered (is_unordered x) m c.author c.game t.pending) (sym is) (known_of m c.author c.game t k.owns law keeps.1.coded author keeps.3) in
+      (keeps.0, (both.0, both.1, papers_known m t c papers k.seen count keeps.2))
 
   module _ (new : Held S) (law : ChangesAreMade m) (fits : IsWritable m c) (wide : HasWidths c) (seen : Parts) (heeds : Heeds c k.seen seen) (owns : Owns) (idle : Idle) where
     is_made : (kept : Keeps) → IsGood (state g new).now → tables_in g new ≡ changing m c (tables_in g k.conn) → IsMade m c (tables_in g k.conn) (tables_in g new)

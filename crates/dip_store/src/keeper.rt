@@ -11,6 +11,7 @@ use dip_desk_keeper::Keeper;
 use dip_desk_state::{Change, Desk, Item, KeepFault, Own, Public, Whole};
 use dip_map::{Map, Power};
 use dip_store_changes::{changes_are_made, make};
+use dip_store_counts::KnownBefore;
 use dip_store_looks::{look_desk, look_digest, look_items, look_own, look_whole};
 use dip_store_memory::{IdleSeats, SeenGames, SeenOwns};
 use dip_store_tables::{
@@ -158,7 +159,8 @@ impl<S: Alter> Keeper for SqlKeeper<S> {
     }
 
     fn whole(&mut self, map: &Map, game: &str) -> Result<Option<Whole>, KeepFault> {
-        match look_whole(&mut self.conn, self.alloc, map, game) {
+        let known = self.seen.copy_of(self.alloc, game)?;
+        match look_whole(&mut self.conn, self.alloc, map, game, known) {
             Ok(whole) => Ok(whole),
             Err(fault) => Err(self.told(row_fault(fault))),
         }
@@ -184,15 +186,16 @@ impl<S: Alter> Keeper for SqlKeeper<S> {
         if !is_writable(map, change) {
             return Err(self.told(KeepFault::Damaged));
         }
-        let was_seen = self.seen.forget_replaced(change);
+        let papers = self.seen.forget_replaced(change);
         self.idle.stir_author(self.alloc, change);
         let owns = self.owns.take(self.alloc, change.game.as_str());
-        let known = known_author(change.author, owns.as_slice());
+        let author = known_author(change.author, owns.as_slice());
+        let known = KnownBefore { author, papers };
         match make(&mut self.conn, self.alloc, map, change, known) {
             Ok(()) => {
                 self.owns.keep(self.alloc, change, owns);
                 self.idle.note_after(self.alloc, change);
-                self.seen.note_after(self.alloc, change, was_seen);
+                self.seen.note_after(self.alloc, change, papers.is_some());
                 Ok(())
             }
             Err(fault) => Err(self.told(row_fault(fault))),

@@ -17,14 +17,15 @@ use crate::delivering::readers_are_seats;
 use crate::whole::make_with;
 use dip_desk_state::Change;
 use dip_map::Map;
-use dip_store_counts::{KnownAuthor, count, is_unordered, row_known};
+use dip_store_counts::{KnownBefore, count, is_unordered, row_known};
 use dip_store_sql::RowFault;
 use dip_store_tables::{press_is_delivered_one_by_one, tables_stay_counted};
 use sqlite::{Alter, Connection, Error, ErrorCode};
 use std::alloc::Global;
 
 /// Makes the whole change, or nothing of it. Of a change by a seat, what its row says may be known, and whether an order of it stands
-/// (`KnownAuthor::of`): the row isn't asked for then, nor orders taken out where none stands; it has to be what the tables say.
+/// (`KnownAuthor::of`): the row isn't asked for then, nor orders taken out where none stands. Of a paper it may be known how many its
+/// game has: the game's row isn't asked for then. What is known has to be what the tables say.
 ///
 /// # Errors
 /// Want of memory, the database's own, one of a transaction that is open before, and `Misfit` where a count has no room for one more,
@@ -35,7 +36,7 @@ pub fn make<S: Alter>(
     alloc: Global,
     map: &Map,
     change: &Change,
-    known: Option<KnownAuthor>,
+    known: KnownBefore,
 ) -> Result<(), RowFault>
     requires { IsWritable map.now (machine.change change.now) }
     ensures makes { MakesFrom
@@ -71,15 +72,15 @@ pub fn make<S: Alter>(
     if !conn.is_autocommit() {
         return Err(RowFault::Sql(Error::SqliteFailure(ErrorCode::TransactionState)));
     }
-    let row = row_known(known);
-    let counted = count(conn, alloc, map, change, row)?;
+    let row = row_known(known.author);
+    let counted = count(conn, alloc, map, change, row, known.papers)?;
     match make_with(
         conn,
         alloc,
         map,
         change,
         counted.row,
-        is_unordered(known),
+        is_unordered(known.author),
         counted.readers.as_slice(),
     ) {
         Ok(()) => Ok(()),

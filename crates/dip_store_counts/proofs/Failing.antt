@@ -54,12 +54,6 @@ pub count_reads : (at : ℕ) (row : Row) (n : ℕ) (e : Error) → IsReadError a
     → at < length row → column row at ≡ Int (pos n) → n < 2 ^ 32 → IsWant ⊥ e
 count_reads at row n e named kind low is small = column_wants at (length row) (column row at) _ e named kind low (n, is, small)
 
--- two counts of one column
-pub same_count : (at : ℕ) (row : Row) (n k : ℕ) → column row at ≡ Int (pos n) → column row at ≡ Int (pos k) → k ≡ n
-same_count at row n k is reads =
-    let both : Int (pos k) ≡ Int (pos n) = sym reads ∙ is in
-    cc
-
 -- the digest of a seat's secret, in a row as it is found
 pub digest_reads : (row : Row) → IsSeatShown row → (e : Error) → IsReadError 0 (column row 0) e → ((e ≡ SqliteFailure OutOfMemory → ⊥) → 0 < length row → ((all : List ℕ) × (column row 0 ≡ Bytes all)) → ⊥) → IsWant ⊥ e
 digest_reads row it e named kind =

@@ -1,5 +1,5 @@
 -- What holds of the one that is found holds of all that pass.
-use Rattle.std.proofs.Common.{◌≡◌, ℕ, ◌+◌, pos, Bool, true, List, [], ◌∷◌, filter, find, slice_get, Some, None, option_map, sym, ap, subst, ◌∙◌, inl, inr}
+use Rattle.std.proofs.Common.{◌≡◌, ℕ, ◌+◌, pos, Bool, true, List, [], ◌∷◌, filter, find, slice_get, Option, Some, None, option_map, refl, sym, ap, subst, ◌∙◌, inl, inr}
 use Rattle.std.specs.List.{AllByRecursion}
 use Rattle.std.proofs.lemmas.Bool.{cases_Bool}
 use Rattle.dip_store_tables.proofs.ListLemmas.{slice_get-filter}
@@ -20,14 +20,26 @@ module _ {A : Type 0} (p : A → Bool) (Q : A → Type 0) where
   found_alone xs (inl none) holds = passed xs (subst (AllByRecursion Q) (sym none) tt)
   found_alone xs (inr one) holds = passed xs (subst (AllByRecursion Q) (sym one.1) (holds one.0 (sym (slice_get-filter p xs) ∙ ap (λ ys. slice_get ys 0) one.1), tt))
 
--- a count in a column of the one row that passes
-module _ {A : Type 0} (p : A → Bool) (at : ℕ) (show : A → Row) (number : A → ℕ) (shown : (x : A) → column (show x) at ≡ Int (pos (number x))) (xs : List A) (one : AtMostOne p xs) where
-  pub none_counted : None ≡ option_map show (find p xs) → (n : ℕ) → AllByRecursion (λ x. p x ≡ true → n ≡ number x + 1) xs
-  none_counted none n = found_alone p (λ x. n ≡ number x + 1) xs one (λ x is. absurd (let bad = none ∙ ap (option_map show) is in cc))
+-- a count of the one that passes
+module _ {A : Type 0} (p : A → Bool) (number : A → ℕ) (xs : List A) (one : AtMostOne p xs) where
+  pub none_counted : (Q : A → Type 0) → None ≡ option_map number (find p xs) → AllByRecursion (λ x. p x ≡ true → Q x) xs
+  none_counted Q none = found_alone p Q xs one (λ x is. absurd (let bad = none ∙ ap (option_map number) is in cc))
 
-  pub one_counted : (row : Row) (count n : ℕ) → Some row ≡ option_map show (find p xs) → column row at ≡ Int (pos count) → n ≡ count + 1 → AllByRecursion (λ x. p x ≡ true → n ≡ number x + 1) xs
-  one_counted row count n found reads next = found_alone p (λ x. n ≡ number x + 1) xs one (λ x is.
-      let same : row ≡ show x = (let both = found ∙ ap (option_map show) is in cc) in
+  pub one_counted : (count n : ℕ) → Some count ≡ option_map number (find p xs) → n ≡ count + 1 → AllByRecursion (λ x. p x ≡ true → n ≡ number x + 1) xs
+  one_counted count n found next = found_alone p (λ x. n ≡ number x + 1) xs one (λ x is.
+      let same : count ≡ number x = (let both = found ∙ ap (option_map number) is in cc) in
+      next ∙ ap (λ k. k + 1) same)
+
+-- a count that a column of a row shows
+module _ {A : Type 0} (at : ℕ) (show : A → Row) (number : A → ℕ) (shown : (x : A) → column (show x) at ≡ Int (pos (number x))) where
+  pub none_shown : (o : Option A) → None ≡ option_map show o → None ≡ option_map number o
+  none_shown None none = refl
+  none_shown (Some x) none = absurd (cc)
+
+  pub one_shown : (o : Option A) (row : Row) (count : ℕ) → Some row ≡ option_map show o → column row at ≡ Int (pos count) → Some count ≡ option_map number o
+  one_shown None row count found reads = absurd (cc)
+  one_shown (Some x) row count found reads =
+      let same : row ≡ show x = cc in
       let columns = sym reads ∙ ap (λ r. column r at) same ∙ shown x in
       let counts : count ≡ number x = cc in
-      next ∙ ap (λ k. k + 1) counts)
+      ap (λ n. Some n) counts

@@ -1,4 +1,4 @@
--- What is known, or found, of the row of a letter's author.
+-- What is known, or found, of the row of a letter's author and of its game's papers.
 use Rattle.std.specs.Prelude.{◌≡◌, ◌<◌, ◌==◌, ℕ, ◌+◌, Bool, true, false, List, [], Option, None, Some, length, filter, option_map, if◌then◌else◌}
 use Rattle.std.specs.List.{find}
 use Rattle.sqlite.specs.Order.{Row, bytes, column}
@@ -9,11 +9,12 @@ use Rattle.dip_desk_state.specs.Bounds.{most_sent}
 use Rattle.dip_desk_state.specs.Records.{Own}
 use Rattle.dip_desk_state.specs.State.{Author, Nobody, TheMaster, Seat, Effect, Nothing, Pending, Votes, Delivers, Opens, Publishes, Seats, Change}
 use Rattle.dip_store_tables.specs.Boards.{power_name}
-use Rattle.dip_store_tables.specs.Tables.{PendingRow, SeatRow, is_pending, is_seat}
+use Rattle.dip_store_tables.specs.Tables.{GameRow, PendingRow, SeatRow, Tables, is_named, is_pending, is_seat}
 use Rattle.dip_store_sql.specs.Calls.{IsKept, tables_in}
 use Rattle.dip_store_sql.specs.Rows.{number_in}
 use Rattle.dip_store_counts.specs.declared.known.AuthorRow.{AuthorRow}
 use Rattle.dip_store_counts.specs.declared.known.KnownAuthor.{KnownAuthor}
+use Rattle.dip_store_counts.specs.declared.known.KnownBefore.{KnownBefore}
 
 -- of a seat's row, of an own part, and of the row as it is found
 abbrev pub row_of : SeatRow → AuthorRow
@@ -39,9 +40,19 @@ abbrev pub IsKnown : Option AuthorRow → Chart → Author → List ℕ → List
 IsKnown None m who name seats = Unit {0}
 IsKnown (Some row) m who name seats = Some row ≡ author_row m who name seats
 
+-- how many papers the game of that name has, by its row
+abbrev pub papers_in : List ℕ → List GameRow → Option ℕ
+papers_in name games = option_map (λ g. g.papers) (find (is_named name) games)
+
+-- what is known of it is what its row says
+abbrev pub ArePapersKnown : Option ℕ → List ℕ → List GameRow → Type 0
+ArePapersKnown None name games = Unit {0}
+ArePapersKnown (Some n) name games = Some n ≡ papers_in name games
+
 -- tables that a keeper has written, of which this is known
-abbrev pub IsKeptAs : {S : Type 0} → Ghosts S → Option AuthorRow → Chart → Change → Held S → Type 0
-IsKeptAs g known m c h = IsKept g h × IsKnown known m c.author c.game (tables_in g h).seats
+abbrev pub IsKeptAs : {S : Type 0} → Ghosts S → Option AuthorRow → Option ℕ → Chart → Change → Held S → Type 0
+IsKeptAs g known papers m c h =
+    IsKept g h × (IsKnown known m c.author c.game (tables_in g h).seats × ArePapersKnown papers c.game (tables_in g h).games)
 
 -- the orders of a letter's author that stand
 abbrev pub orders_by : Chart → Author → List ℕ → List PendingRow → List PendingRow
@@ -66,10 +77,14 @@ is_unordered (Some a) = a.unordered
 abbrev pub known_own : Own → KnownAuthor
 known_own o = record { row = own_row o; unordered = length o.pending == 0 }
 
--- tables that a keeper has written, of whose author this is known
-abbrev pub IsKeptFor : {S : Type 0} → Ghosts S → Option KnownAuthor → Chart → Change → Held S → Type 0
-IsKeptFor g known m c h =
-    IsKept g h × (IsKnown (row_known known) m c.author c.game (tables_in g h).seats × IsUnordered (is_unordered known) m c.author c.game (tables_in g h).pending)
+-- what is known before a change is what the tables say: of its author's row, of the author's orders, and of the papers of its game
+abbrev pub IsKnownBefore : KnownBefore → Chart → Change → Tables → Type 0
+IsKnownBefore known m c t =
+    IsKnown (row_known known.author) m c.author c.game t.seats × IsUnordered (is_unordered known.author) m c.author c.game t.pending × ArePapersKnown known.papers c.game t.games
+
+-- tables that a keeper has written, of which this is known
+abbrev pub IsKeptFor : {S : Type 0} → Ghosts S → KnownBefore → Chart → Change → Held S → Type 0
+IsKeptFor g known m c h = IsKept g h × IsKnownBefore known m c (tables_in g h)
 
 abbrev pub is_press : Effect → Bool
 is_press Nothing = false

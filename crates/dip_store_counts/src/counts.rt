@@ -12,13 +12,14 @@ ghost use Rattle.dip_store_sql.specs.Calls.{IsKept, Selects, does_show, is_hones
 ghost use Rattle.dip_store_counts.specs.Counts.{AreReaders, Counts, CountsRow, Peeks};
 ghost use Rattle.dip_store_counts.specs.Failing.{HasPlace, InboxesHaveRoom, IsSeatKept, PressHasRoom};
 ghost use Rattle.dip_store_sql.specs.RowFaults.{FailsFor};
-ghost use Rattle.dip_store_counts.specs.Knowing.{IsKeptAs, IsKnown};
+ghost use Rattle.dip_store_counts.specs.Knowing.{ArePapersKnown, IsKeptAs, IsKnown};
 
 use crate::known::{AuthorRow, know_author, row_after};
+use crate::papers::know_papers;
 use crate::readers::{Reader, find_readers};
 use dip_desk_state::{Author, Change, Effect, MOST_PAPERS};
 use dip_map::Map;
-use dip_store_sql::{RowFault, find_game};
+use dip_store_sql::RowFault;
 use sqlite::{Alter, Connection};
 use std::alloc::Global;
 
@@ -30,22 +31,29 @@ pub struct Counted {
 }
 
 /// Whether the paper has the next number of its game, which is no more than a game has.
-fn check_number<S: Alter>(conn: &mut Connection<S>, game: &str, papers: u32) -> Result<(), RowFault>
-    ensures value { IsKept S.Store conn.old → is_honest S.Store conn.new → OnOk result
+fn check_number<S: Alter>(
+    conn: &mut Connection<S>,
+    game: &str,
+    papers: u32,
+    known: Option<u32>,
+) -> Result<(), RowFault>
+    ensures value { IsKept S.Store conn.old
+        → ArePapersKnown known game.now (tables_in S.Store conn.old).games
+        → is_honest S.Store conn.new → OnOk result
         (AllByRecursion (λ g. is_named game.now g ≡ true → IsNextPaper papers g)
         (tables_in S.Store conn.old).games) }
-    ensures selects { Selects S.Store conn.old conn.new result }
-    ensures fails { IsKept S.Store conn.old → does_show S.Store conn.old
-        → is_honest S.Store conn.new
+    ensures peeks { Peeks S.Store conn.old conn.new result }
+    ensures fails { IsKept S.Store conn.old
+        → ArePapersKnown known game.now (tables_in S.Store conn.old).games
+        → does_show S.Store conn.old → is_honest S.Store conn.new
         → AllByRecursion (λ g. g.papers < 2 ^ 32) (tables_in S.Store conn.old).games
         → IfErr result (FailsFor (has_faulted S.Store conn.old conn.new)
         (¬ AllByRecursion (λ g. is_named game.now g ≡ true → IsNextPaper papers g)
         (tables_in S.Store conn.old).games)) }
 {
-    let Some(row) = find_game(conn, game)? else {
+    let Some(count) = know_papers(conn, game, known)? else {
         return Ok(());
     };
-    let count: u32 = row.get(6)?;
     if MOST_PAPERS <= count || papers != count + 1 {
         return Err(RowFault::Misfit);
     }
@@ -57,20 +65,24 @@ fn check_paper<S: Alter>(
     conn: &mut Connection<S>,
     game: &str,
     effect: &Effect,
+    known: Option<u32>,
 ) -> Result<(), RowFault>
     requires { FitsColumns (machine.effect effect.now) }
-    ensures value { IsKept S.Store conn.old → is_honest S.Store conn.new → OnOk result
+    ensures value { IsKept S.Store conn.old
+        → ArePapersKnown known game.now (tables_in S.Store conn.old).games
+        → is_honest S.Store conn.new → OnOk result
         (CountsOn game.now (machine.effect effect.now) (tables_in S.Store conn.old).games) }
     ensures peeks { Peeks S.Store conn.old conn.new result }
-    ensures fails { IsKept S.Store conn.old → does_show S.Store conn.old
-        → is_honest S.Store conn.new
+    ensures fails { IsKept S.Store conn.old
+        → ArePapersKnown known game.now (tables_in S.Store conn.old).games
+        → does_show S.Store conn.old → is_honest S.Store conn.new
         → AllByRecursion (λ g. g.papers < 2 ^ 32) (tables_in S.Store conn.old).games
         → IfErr result (FailsFor (has_faulted S.Store conn.old conn.new)
         (¬ CountsOn game.now (machine.effect effect.now)
         (tables_in S.Store conn.old).games)) }
 {
     match effect {
-        Effect::Publishes { public, .. } => check_number(conn, game, public.papers),
+        Effect::Publishes { public, .. } => check_number(conn, game, public.papers, known),
         Effect::Nothing => Ok(()),
         Effect::Pending(_) => Ok(()),
         Effect::Votes(_) => Ok(()),
@@ -153,18 +165,19 @@ pub fn count<S: Alter>(
     map: &Map,
     change: &Change,
     known: Option<AuthorRow>,
+    papers: Option<u32>,
 ) -> Result<Counted, RowFault>
     requires { FitsColumns (machine.effect change.now.effect) }
     ensures room { IfOk result (λ n. All (λ r. r.items < most_items) n.readers.items) }
-    ensures value { IsKeptAs S.Store known map.now (machine.change change.now) conn.old
+    ensures value { IsKeptAs S.Store known papers map.now (machine.change change.now) conn.old
         → is_honest S.Store conn.new → IfOk result (λ n.
         Counts n.row n.readers.items map.now (machine.change change.now)
         (tables_in S.Store conn.old)) }
     ensures peeks { Peeks S.Store conn.old conn.new result }
-    ensures place { IsKeptAs S.Store known map.now (machine.change change.now) conn.old
+    ensures place { IsKeptAs S.Store known papers map.now (machine.change change.now) conn.old
         → is_honest S.Store conn.new → OnOk result
         (HasPlace map.now (machine.change change.now) (tables_in S.Store conn.old)) }
-    ensures fails { IsKeptAs S.Store known map.now (machine.change change.now) conn.old
+    ensures fails { IsKeptAs S.Store known papers map.now (machine.change change.now) conn.old
         → does_show S.Store conn.old → is_honest S.Store conn.new
         → AreOurs map.now (tables_in S.Store conn.old)
         → IfErr result (FailsFor (has_faulted S.Store conn.old conn.new)
@@ -172,7 +185,7 @@ pub fn count<S: Alter>(
         (tables_in S.Store conn.old))) }
 {
     let game = change.game.as_str();
-    check_paper(conn, game, &change.effect)?;
+    check_paper(conn, game, &change.effect, papers)?;
     let row = count_author(conn, map, game, change.author, &change.effect, known)?;
     let readers = readers_of(conn, alloc, map, game, &change.effect)?;
     Ok(Counted { row, readers })

@@ -61,6 +61,15 @@ impl KnownAuthor {
     }
 }
 
+/// What is known before a change is made, so that it needn't be read.
+#[derive(Clone, Copy)]
+pub struct KnownBefore {
+    /// Of the letter's author.
+    pub author: Option<KnownAuthor>,
+    /// How many papers the change's game has.
+    pub papers: Option<u32>,
+}
+
 /// The author's row, if it is known without a look.
 pub fn row_known(known: Option<KnownAuthor>) -> Option<AuthorRow>
     ensures { result ≡ row_known known }

@@ -3,8 +3,9 @@
 
 mod counts;
 mod known;
+mod papers;
 mod readers;
 
 pub use counts::{Counted, count};
-pub use known::{AuthorRow, KnownAuthor, is_unordered, row_known};
+pub use known::{AuthorRow, KnownAuthor, KnownBefore, is_unordered, row_known};
 pub use readers::Reader;

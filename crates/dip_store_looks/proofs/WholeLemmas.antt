@@ -1,5 +1,5 @@
 -- What the rows of a game's seats show is what their records say; and what the master's row shows.
-use Rattle.std.proofs.Common.{◌≡◌, ℕ, List, [], ◌∷◌, map, filter, option_map, Option, Some, None, refl, sym, ap, ap₂, ◌∙◌, inl, inr}
+use Rattle.std.proofs.Common.{◌≡◌, ℕ, List, [], ◌∷◌, map, filter, option_map, Option, Some, None, Result, Ok, Err, IfOk, refl, sym, ap, ap₂, ◌∙◌, inl, inr}
 use Rattle.std.specs.List.{find}
 use Rattle.std.proofs.lemmas.Bool.{cases_Bool}
 use Rattle.std.proofs.lemmas.Slice.Eq.{bytes_eq-Decides}
@@ -12,7 +12,7 @@ use Rattle.dip_store_tables.specs.Coding.{AreCoded}
 use Rattle.dip_store_tables.specs.Reading.{desk_of, own_of, pending_of, public_of, state_of}
 use Rattle.dip_store_tables.specs.Tables.{GameRow, SeatRow, Tables, is_named, is_pending, is_seat_in}
 use Rattle.dip_store_tables.specs.Votes.{vote_in}
-use Rattle.dip_store_looks.specs.Asked.{whole_in}
+use Rattle.dip_store_looks.specs.Asked.{owns_in, whole_in}
 use Rattle.dip_store_looks.specs.Shown.{listed_own, shown_desk}
 use Rattle.dip_store_looks.proofs.OwnLemmas.{orders_shown}
 use Rattle.dip_store_looks.proofs.PublicLemmas.{found_named}
@@ -32,18 +32,25 @@ module _ (m : Chart) where
     | inr off ↦ rw off (owns_listed t name ss)
   ]
 
-  pub whole_is : (t : Tables) (name : List ℕ) (public : Public) (owns : List Own) (seats : List Row)
+  -- of a whole answer
+  pub seats_are : {X E : Type 0} (owns : X → List Own) (t : Tables) (name : List ℕ) (rows : List Row) (r : Result X E)
+      → IfOk r (λ x. owns x ≡ map (listed_own m t name) rows) → rows ≡ map show_listed (filter (is_seat_in name) t.seats)
+      → IfOk r (λ x. owns x ≡ owns_in m t name)
+  seats_are owns t name rows (Ok x) read listed = read ∙ ap (map (listed_own m t name)) listed ∙ owns_listed t name t.seats
+  seats_are owns t name rows (Err e) read listed = tt
+
+  pub whole_is : (t : Tables) (name : List ℕ) (public : Public) (owns : List Own)
       → Some public ≡ option_map (public_of m t.units t.centres t.choices) (find (is_named name) t.games)
-      → owns ≡ map (listed_own m t name) seats → seats ≡ map show_listed (filter (is_seat_in name) t.seats)
+      → owns ≡ owns_in m t name
       → Some (record { public = public; seats = owns }) ≡ option_map (whole_in m t) (find (is_named name) t.games)
-  whole_is t name public owns seats told read listed = by_game (find (is_named name) t.games) refl
+  whole_is t name public owns told read = by_game (find (is_named name) t.games) refl
     where
       by_game : (o : Option GameRow) → find (is_named name) t.games ≡ o → Some (record { public = public; seats = owns }) ≡ option_map (whole_in m t) (find (is_named name) t.games)
       by_game None none = absurd (let bad = told ∙ ap (option_map (public_of m t.units t.centres t.choices)) none in cc)
       by_game (Some g) found =
           let same : public ≡ public_of m t.units t.centres t.choices g = (let both = told ∙ ap (option_map (public_of m t.units t.centres t.choices)) found in cc) in
           let named = found_named m name t.games g found in
-          let mine = read ∙ ap (map (listed_own m t name)) listed ∙ owns_listed t name t.seats ∙ ap (λ n. map (own_of m t.pending t.ballots) (filter (is_seat_in n) t.seats)) (sym named) in
+          let mine = read ∙ ap (owns_in m t) (sym named) in
           ap₂ (λ p os. Some (record { public = p; seats = os })) same mine ∙ sym (ap (option_map (whole_in m t)) found)
 
   pub desk_is : (t : Tables) (row : Row) → AreCoded m t → Some row ≡ option_map show_desk (find is_first t.desk) → shown_desk row ≡ (state_of m t).desk

@@ -1,8 +1,6 @@
 -- Rows that can be read by a map: each column has a value of its kind, and what it says is of the map.
-use Rattle.std.specs.Prelude.{◌≡◌, ℕ, pos, ◌<◌, ◌+◌, ◌^◌, List, Option, None, Some, length, map}
+use Rattle.std.specs.Prelude.{◌≡◌, ℕ, ◌<◌, ◌+◌, ◌^◌, List, Option, None, Some, length, map}
 use Rattle.std.specs.List.{AllByRecursion}
-use Rattle.std.specs.Str.{IsUtf8}
-use Rattle.sqlite.specs.declared.types.Value.TheVariants.{Int, Text as Words, Blob as Bytes}
 use Rattle.sqlite.specs.Order.{Row, column, bytes}
 use Rattle.dip_store_tables.specs.Boards.{code, power_name}
 use Rattle.dip_store_tables.specs.WrittenBoards.{AreOfBoard}

@@ -7,7 +7,6 @@ use Rattle.std.specs.Option.{option_or}
 use Rattle.std.specs.Map.{lookup}
 use Rattle.std.specs.String.{string_eq}
 use Rattle.indexmap.specs.IndexMap.{IndexMap, UpdatesBy}
-use Rattle.std.proofs.lemmas.Bool.{and_parts}
 use Rattle.std.proofs.lemmas.Slice.Eq.{bytes_eq-Decides}
 use Rattle.sqlite_trees.specs.Tree.{IsAscending}
 use Rattle.dip_desk_state.specs.Records as r
@@ -18,7 +17,7 @@ use Rattle.dip_desk_state.proofs.KeyedLemmas.{Tells, at_key, at-append, at-chang
 use Rattle.dip_desk_state.proofs.KeptKeys.{name_kept}
 use Rattle.dip_desk_state.specs.declared.records.Public.{Public}
 use Rattle.dip_store_memory.proofs.Named.{found_said, lent_said, said, updated_said}
-use Rattle.dip_store_memory.specs.Seen.{DifferByName, IsThere, Parts, Recalls, gives_part, is_paper, most_seen, part_of, replaces_part, with_room}
+use Rattle.dip_store_memory.specs.Seen.{DifferByName, IsThere, Parts, Recalls, gives_part, is_paper, most_seen, part_of, replaced_papers, with_room}
 
 -- what a part as it lies in memory says
 abbrev pub says : Rc Public Global → r.Public
@@ -34,10 +33,16 @@ pub parts_updated : {S : Type 0} (bs : List ℕ) (m n : IndexMap (String Global)
     → (other : List ℕ) → part_of other (said says n.entries) ≡ cond (bytes_eq bs other) (option_map (λ p. rows.public p.value) w) (part_of other (said says m.entries))
 parts_updated bs m n w updates other = updated_said says bs m n w updates other
 
--- whether something lies there is whether it says something
-pub some_said : (o : Option (Rc Public Global)) → is_some o ≡ is_some (option_map (λ p. rows.public p.value) o)
-some_said None = refl
-some_said (Some p) = refl
+-- and how many papers the part has that is found
+pub papers_found : (name : List ℕ) (found : Option (Rc Public Global)) (es : List (String Global × Rc Public Global)) (ps : Parts) → found ≡ lookup (λ k. bytes_eq name (string_bytes k)) es → said says es ≡ ps
+    → option_map (λ (p : Rc Public Global). p.value.papers) found ≡ option_map (λ (p : r.Public). p.papers) (part_of name ps)
+papers_found name found es ps is same =
+    twice found
+    ∙ ap (option_map (λ (p : r.Public). p.papers)) (ap (λ (o : Option (Rc Public Global)). option_map (λ p. rows.public p.value) o) is ∙ part_found name es ∙ ap (part_of name) same)
+  where
+    twice : (o : Option (Rc Public Global)) → option_map (λ (p : Rc Public Global). p.value.papers) o ≡ option_map (λ (p : r.Public). p.papers) (option_map (λ p. rows.public p.value) o)
+    twice None = refl
+    twice (Some p) = refl
 
 -- by the name, the part and the parts that are meant
 pub part_noted : (other bs name : List ℕ) (p q : r.Public) (ps qs : Parts) → bs ≡ name → p ≡ q → ps ≡ qs
@@ -142,13 +147,23 @@ heeded c old new is s holds = (before, later)
         let it = heeded_by (gives_part c name) (part_of name old) p (sym (is name) ∙ h) in
         part_stays c s name p it.0 (holds name p it.1)
 
--- a game whose part was remembered is there
-pub was_there : (c : Change) (s : State) (ps : Parts) (was : Bool) → was ≡ replaces_part c ps → Recalls s ps → was ≡ true → IsThere c.game s
-was_there c s ps was is holds so = go (part_of c.game ps) refl (and_parts (is_paper c.effect) (is_some (part_of c.game ps)) (sym is ∙ so)).1
+-- the part that a change replaces has as many papers in the state, where it was remembered
+pub replaced : (c : Change) (s : State) (ps : Parts) (n : ℕ) → replaced_papers c ps ≡ Some n → Recalls s ps → option_map (λ p. p.papers) (public_at c.game s) ≡ Some n
+replaced c s ps n is holds = go (is_paper c.effect) (part_of c.game ps) refl is
   where
-    go : (o : Option r.Public) → part_of c.game ps ≡ o → is_some o ≡ true → IsThere c.game s
-    go None found some = absurd (cc)
-    go (Some p) found some = ap (λ (o : Option r.Public). is_some o) (holds c.game p found)
+    go : (b : Bool) (o : Option r.Public) → part_of c.game ps ≡ o → cond b (option_map (λ p. p.papers) o) None ≡ Some n → option_map (λ (p : r.Public). p.papers) (public_at c.game s) ≡ Some n
+    go false o found h = absurd (cc)
+    go true None found h = absurd (cc)
+    go true (Some p) found h = ap (option_map (λ (p : r.Public). p.papers)) (holds c.game p found) ∙ h
+
+-- and its game is there
+pub was_there : (c : Change) (s : State) (ps : Parts) (papers : Option ℕ) → papers ≡ replaced_papers c ps → Recalls s ps → is_some papers ≡ true → IsThere c.game s
+was_there c s ps None is holds so = absurd (cc)
+was_there c s ps (Some n) is holds so = there (public_at c.game s) (replaced c s ps n (sym is) holds)
+  where
+    there : (o : Option r.Public) → option_map (λ (p : r.Public). p.papers) o ≡ Some n → is_some o ≡ true
+    there None h = absurd (cc)
+    there (Some p) h = refl
 
 last_has : {A : Type 0} (P : A → Type 0) (xs : List A) (x : A) → AllByRecursion P (xs ++ x ∷ []) → P x
 last_has P [] x all = all.0

@@ -1,5 +1,5 @@
 -- What is remembered of games.
-use Rattle.std.specs.Prelude.{◌≡◌, ℕ, Bool, true, false, List, [], Option, Some, is_some, length, nat_lt, bytes_eq, ◌&&◌, if◌then◌else◌}
+use Rattle.std.specs.Prelude.{◌≡◌, ℕ, Bool, true, false, List, [], Option, None, Some, is_some, option_map, length, nat_lt, bytes_eq, ◌&&◌, if◌then◌else◌}
 use Rattle.std.specs.Map.{lookup}
 use Rattle.sqlite_trees.specs.Tree.{IsAscending}
 use Rattle.dip_desk_state.specs.Records.{Public}
@@ -12,6 +12,10 @@ Parts = List (List ℕ × Public)
 -- what is remembered of the game of a name
 abbrev pub part_of : List ℕ → Parts → Option Public
 part_of name ps = lookup (bytes_eq name) ps
+
+-- it, with that name
+abbrev pub named_part : List ℕ → Parts → Option Public
+named_part name ps = option_map (λ (p : Public). record p { game = name }) (part_of name ps)
 
 -- so many parts are remembered at most
 abbrev pub most_seen : ℕ
@@ -47,6 +51,6 @@ is_paper (Seats seat) = false
 abbrev pub gives_part : Change → List ℕ → Bool
 gives_part c name = is_paper c.effect && bytes_eq c.game name
 
--- whether the part that a change replaces is among these
-abbrev pub replaces_part : Change → Parts → Bool
-replaces_part c ps = is_paper c.effect && is_some (part_of c.game ps)
+-- how many papers the part has that a change replaces, where it is among these
+abbrev pub replaced_papers : Change → Parts → Option ℕ
+replaced_papers c ps = if is_paper c.effect then option_map (λ p. p.papers) (part_of c.game ps) else None

@@ -1,9 +1,9 @@
 //! What a keeper remembers of games: their public parts, as it has looked at them or changed them.
-ghost use Rattle.std.specs.Prelude.{◌≡◌, [], ℕ, IfOk, List, None, OnErr, OnOk, Some, bytes_eq, if◌then◌else◌, is_some, option_map, true};
+ghost use Rattle.std.specs.Prelude.{◌≡◌, [], ℕ, IfOk, List, None, OnErr, OnOk, Some, bytes_eq, if◌then◌else◌, option_map, true};
 ghost use Rattle.dip_desk_state.specs.ChangeRows as desk_rows;
 ghost use Rattle.dip_desk_state.specs.Rows as rows;
 ghost use Rattle.dip_desk_state.specs.State.{State, public_at, state_after};
-ghost use Rattle.dip_store_memory.specs.Seen.{DifferByName, IsThere, Recalls, gives_part, is_paper, part_of, replaces_part, with_room};
+ghost use Rattle.dip_store_memory.specs.Seen.{DifferByName, IsThere, Recalls, gives_part, is_paper, named_part, part_of, replaced_papers, with_room};
 
 use crate::boards::are_surely_same;
 use dip_desk_state::{Change, Effect, Public};
@@ -65,6 +65,17 @@ impl SeenGames {
         ensures { option_map (λ p. rows.public p.now.value) result ≡ part_of name.now self.now }
     {
         self.parts.get(name)
+    }
+
+    /// A copy of what is remembered of the game of that name, under that name.
+    pub fn copy_of(&self, alloc: Global, name: &str) -> Result<Option<Public>, AllocError>
+        ensures { IfOk result (λ o. option_map rows.public o ≡ named_part name.now self.now) }
+    {
+        let Some(part) = self.find(name) else {
+            return Ok(None);
+        };
+        let copy = part.copy_under(alloc, name)?;
+        Ok(Some(copy))
     }
 
     /// Forgets all parts where there is no room for one more.
@@ -144,19 +155,20 @@ impl SeenGames {
         self.note(alloc, name, &part)
     }
 
-    /// Forgets the public part of a game, and says whether it was remembered.
-    fn forget(&mut self, name: &str) -> bool
-        ensures was { result ≡ is_some (part_of name.now self.old) }
+    /// Forgets the public part of a game, and gives how many papers it has, where it was remembered.
+    fn forget(&mut self, name: &str) -> Option<u32>
+        ensures was { result ≡ option_map (λ p. p.papers) (part_of name.now self.old) }
         ensures left { (other : List ℕ) → part_of other self.new
             ≡ (if bytes_eq name.now other then None else part_of other self.old) }
     {
-        let part = self.parts.swap_remove(name);
-        part.is_some()
+        let part = self.parts.swap_remove(name)?;
+        Some(part.papers)
     }
 
-    /// Before a change: forgets the part that it replaces, whether it will be made or not, and says whether that was remembered.
-    pub fn forget_replaced(&mut self, change: &Change) -> bool
-        ensures was { result ≡ replaces_part (desk_rows.change change.now) self.old }
+    /// Before a change: forgets the part that it replaces, whether it will be made or not, and gives how many papers that has, where it
+    /// was remembered.
+    pub fn forget_replaced(&mut self, change: &Change) -> Option<u32>
+        ensures was { result ≡ replaced_papers (desk_rows.change change.now) self.old }
         ensures left { (name : List ℕ) → part_of name self.new
             ≡ (if gives_part (desk_rows.change change.now) name then None
             else part_of name self.old) }
@@ -164,7 +176,7 @@ impl SeenGames {
         if is_new_part(&change.effect) {
             return self.forget(change.game.as_str());
         }
-        false
+        None
     }
 
     /// Remembers, after a change that is made, the public part that came with it: of a game that it opens, and with a paper where

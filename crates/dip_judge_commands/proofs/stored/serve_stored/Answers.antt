@@ -27,9 +27,9 @@ returns-clause-stops g c =
     let still = is_open g.S.Store m s k opened in
     let fault = c.in-Err-serve_all.fault in (
       blamed g.S.Store c.args.store k c.serve_all.new.keeper (Serving fault) c.in-Ok.ensures.counted
-      (λ bad. c.in-Err-serve_all.ensures.failed still clean (ap (λ (f : KeepFault). Err f) (disk_serving fault bad))),
+          (λ bad. c.in-Err-serve_all.ensures.failed still clean (ap (λ (f : KeepFault). Err f) (disk_serving fault bad))),
       serves_up_to g.S.Store m c.args.store c.args.count s k c.serve_all.new.keeper opened c.in-Ok.ensures.counted
-      (c.serve_all.ensures.ends still clean),
+          (c.serve_all.ensures.ends still clean),
     ))
 
 pub returns-in-Err-listen_on-clause-stops : goal.returns-in-Err-listen_on-clause-stops

@@ -17,10 +17,10 @@ use Rattle.dip_store_tables.specs.Tables.{Tables}
 use Rattle.dip_store_sql.specs.Keys.{AreKeyed}
 use Rattle.dip_store_counts.specs.declared.readers.Reader.{Reader}
 use Rattle.dip_store_counts.specs.Counts.{Counts}
-use Rattle.dip_store_counts.specs.Knowing.{IsKeptAs, IsKeptFor, IsKnown, IsUnordered, is_unordered, row_known}
+use Rattle.dip_store_counts.specs.Knowing.{IsKeptAs, IsKeptFor, IsKnown, IsKnownBefore, IsUnordered, is_unordered, row_known}
 use Rattle.dip_store_changes.specs.Making.{changing_row}
 use Rattle.dip_store_counts.specs.declared.known.AuthorRow.{AuthorRow}
-use Rattle.dip_store_counts.specs.declared.known.KnownAuthor.{KnownAuthor}
+use Rattle.dip_store_counts.specs.declared.known.KnownBefore.{KnownBefore}
 use Rattle.dip_store_sql.specs.declared.row_faults.RowFault.{RowFault}
 use Rattle.dip_store_changes.proofs.Counted.{counted_change}
 use Rattle.dip_store_counts.specs.declared.counts.Counted.{Counted}
@@ -28,12 +28,12 @@ use Rattle.dip_store_changes.proofs.Made.{laid_kept, makes_named, makes_peeked}
 use Rattle.dip_store_counts.proofs.Peeking.{peeks_counts, peeks_kept, peeks_shows}
 use Rattle.dip_store_changes.proofs.making.make.Goals as goal
 
--- what `count` asks for, of what is known of the author
-at_row : {S : Type 0} (g : Ghosts S) (known : Option KnownAuthor) (row : Option AuthorRow) (m : Chart) (it : Change) (h : Held S) → row ≡ row_known known → IsKeptFor g known m it h → IsKeptAs g row m it h
-at_row g known row m it h is kept = (kept.0, subst (λ (r : Option AuthorRow). IsKnown r m it.author it.game (tables_in g h).seats) (sym is) kept.1.0)
+-- what `count` asks for, of what is known
+at_row : {S : Type 0} (g : Ghosts S) (known : KnownBefore) (row : Option AuthorRow) (m : Chart) (it : Change) (h : Held S) → row ≡ row_known known.author → IsKeptFor g known m it h → IsKeptAs g row known.papers m it h
+at_row g known row m it h is kept = (kept.0, (subst (λ (r : Option AuthorRow). IsKnown r m it.author it.game (tables_in g h).seats) (sym is) kept.1.0, kept.1.2))
 
--- and what `make_with` is told of its orders
-at_orders : {S : Type 0} (g : Ghosts S) (known : Option KnownAuthor) (none : Bool) (m : Chart) (it : Change) (h : Held S) → none ≡ is_unordered known → IsKeptFor g known m it h → IsUnordered none m it.author it.game (tables_in g h).pending
+-- and what `make_with` is told of the author's orders
+at_orders : {S : Type 0} (g : Ghosts S) (known : KnownBefore) (none : Bool) (m : Chart) (it : Change) (h : Held S) → none ≡ is_unordered known.author → IsKeptFor g known m it h → IsUnordered none m it.author it.game (tables_in g h).pending
 at_orders g known none m it h is kept = subst (λ (b : Bool). IsUnordered b m it.author it.game (tables_in g h).pending) (sym is) kept.1.1
 
 pub returns-in-Ok-clause-makes : goal.returns-in-Ok-clause-makes
@@ -47,7 +47,7 @@ returns-in-Ok-clause-makes g c =
     let none = c.is_unordered.result in
     let row = at_row g.S.Store c.args.known c.row_known-row.result m it old c.row_known-row.ensures in
     let orders = at_orders g.S.Store c.args.known none m it old c.is_unordered.ensures in
-    makes_named g.S.Store (IsKnown (row_known c.args.known) m it.author it.game (tables_in g.S.Store old).seats × IsUnordered (is_unordered c.args.known) m it.author it.game (tables_in g.S.Store old).pending) (Unit {0}) Error RowFault (changing_row n none rs m it) (changing m it) old c.make_with.new.conn (Ok c.in-Ok.field-0) _ tt
+    makes_named g.S.Store (IsKnownBefore c.args.known m it (tables_in g.S.Store old)) (Unit {0}) Error RowFault (changing_row n none rs m it) (changing m it) old c.make_with.new.conn (Ok c.in-Ok.field-0) _ tt
     (λ kept clean. counted_change m (c.readers_are_seats.ensures m) (c.press_is_delivered_one_by_one.ensures m) it (tables_in g.S.Store old) n none rs (are_apart (state g.S.Store old).now kept.0.good) (orders kept)
     (subst (λ (rs : List Reader). Counts n rs m it (tables_in g.S.Store old)) (sym c.as_slice.ensures.value) (c.in_ok-counted.ensures.value (row kept) (k.fair clean))))
     (makes_peeked g.S.Store _ _ _ _ (changing_row n none rs m it) old c.count.new.conn c.make_with.new.conn c.in_ok-counted.counted _ c.in_ok-counted.ensures.peeks k)
@@ -77,7 +77,7 @@ returns-clause-makes g c =
     let none = c.is_unordered.result in
     let row = at_row g.S.Store c.args.known c.row_known-row.result m it old c.row_known-row.ensures in
     let orders = at_orders g.S.Store c.args.known none m it old c.is_unordered.ensures in
-    makes_named g.S.Store (IsKnown (row_known c.args.known) m it.author it.game (tables_in g.S.Store old).seats × IsUnordered (is_unordered c.args.known) m it.author it.game (tables_in g.S.Store old).pending) (Unit {0}) Error RowFault (changing_row n none rs m it) (changing m it) old c.make_with.new.conn (Err c.in-Err.error) _ tt
+    makes_named g.S.Store (IsKnownBefore c.args.known m it (tables_in g.S.Store old)) (Unit {0}) Error RowFault (changing_row n none rs m it) (changing m it) old c.make_with.new.conn (Err c.in-Err.error) _ tt
     (λ kept clean. counted_change m (c.readers_are_seats.ensures m) (c.press_is_delivered_one_by_one.ensures m) it (tables_in g.S.Store old) n none rs (are_apart (state g.S.Store old).now kept.0.good) (orders kept)
     (subst (λ (rs : List Reader). Counts n rs m it (tables_in g.S.Store old)) (sym c.as_slice.ensures.value) (c.in_ok-counted.ensures.value (row kept) (k.fair clean))))
     (makes_peeked g.S.Store _ _ _ _ (changing_row n none rs m it) old c.count.new.conn c.make_with.new.conn c.in_ok-counted.counted _ c.in_ok-counted.ensures.peeks k)

@@ -1,51 +1,64 @@
-use Rattle.std.proofs.Common.{arith, ◌≡◌, ◌<◌, ◌≤◌, ◌+◌, ◌^◌, length, true, refl, sym, ap, subst, ◌∙◌}
+use Rattle.std.proofs.Common.{arith, ◌≡◌, ◌≤◌, ◌+◌, ℕ, Option, Ok, Err, true, sym, ap, ◌∙◌}
 use Rattle.dip_desk_state.specs.Bounds.{most_papers}
 use Rattle.dip_store_tables.proofs.ListLemmas.{all_weaker}
 use Rattle.dip_store_tables.specs.Counting.{IsNextPaper}
 use Rattle.dip_store_tables.specs.Tables.{GameRow, is_named}
 use Rattle.sqlite.specs.Held.{state}
-use Rattle.sqlite.specs.Order.{Row, column}
 use Rattle.dip_store_sql.specs.Calls.{tables_in}
-use Rattle.dip_store_sql.specs.Showing.{show_game}
 use Rattle.dip_store_sql.proofs.Apart.{one_game}
+use Rattle.dip_store_sql.proofs.RowFaults.{same_fails}
+use Rattle.dip_store_sql.specs.declared.row_faults.RowFault.{RowFault}
+use Rattle.dip_store_sql.specs.declared.row_faults.RowFault.TheVariants.{Misfit}
 use Rattle.dip_store_counts.proofs.Found.{none_counted, one_counted}
-use Rattle.dip_store_counts.proofs.Failing.{count_reads, same_count, shown_found}
-use Rattle.dip_store_sql.proofs.RowFaults.{sql_fails}
+use Rattle.dip_store_counts.proofs.Failing.{shown_found}
+use Rattle.dip_store_counts.proofs.Peeking.{peeks_as, peeks_passed}
 use Rattle.dip_store_counts.proofs.counts.check_number.Goals as goal
 use Rattle.dip_store_counts.proofs.counts.check_number.Goals.{then-count-ge-MOST_PAPERS-via-then-count-ge-MOST_PAPERS, then-count-ge-MOST_PAPERS-via-else-count-ge-MOST_PAPERS+then-papers-count}
 
 pub returns-in_default-clause-value : goal.returns-in_default-clause-value
-returns-in_default-clause-value g c kept clean =
+returns-in_default-clause-value g c kept known clean =
     let name = c.args.game.now in
     let games = (tables_in g.S.Store c.args.conn.now).games in
-    all_weaker (λ (x : GameRow). is_named name x ≡ true → 0 ≡ x.papers + 1) (λ (x : GameRow). is_named name x ≡ true → IsNextPaper c.args.papers x)
-    (λ x none mine. absurd (let bad = none mine in omega (arith, bad))) games
-    (none_counted (is_named name) 6 show_game (λ r. r.papers) (λ r. refl) games (one_game (state g.S.Store c.args.conn.now).now kept.good name)
-    (sym c.in_default.is ∙ c.in_ok-row.ensures.value kept clean) 0)
+    none_counted (is_named name) (λ r. r.papers) games (one_game (state g.S.Store c.args.conn.now).now kept.good name) (IsNextPaper c.args.papers)
+    (sym c.in_default.is ∙ c.in_ok-count.ensures.value kept known clean)
 
 pub returns-clause-value : goal.returns-clause-value
-returns-clause-value g c kept clean =
+returns-clause-value g c kept known clean =
     let name = c.args.game.now in
     let games = (tables_in g.S.Store c.args.conn.now).games in
     let few : c.args.papers ≤ most_papers = omega (arith, c.if-count-ge-MOST_PAPERS.false, c.if-papers-count.false) in
     all_weaker (λ (x : GameRow). is_named name x ≡ true → c.args.papers ≡ x.papers + 1) (λ (x : GameRow). is_named name x ≡ true → IsNextPaper c.args.papers x)
     (λ x next mine. (next mine, few)) games
-    (one_counted (is_named name) 6 show_game (λ r. r.papers) (λ r. refl) games (one_game (state g.S.Store c.args.conn.now).now kept.good name)
-    _ c.in_ok-count.count c.args.papers (sym c.in-Some.is ∙ c.in_ok-row.ensures.value kept clean) c.in_ok-count.ensures.ok.1 (omega (arith, c.if-papers-count.false)))
+    (one_counted (is_named name) (λ r. r.papers) games (one_game (state g.S.Store c.args.conn.now).now kept.good name)
+    c.in-Some.count c.args.papers (sym c.in-Some.is ∙ c.in_ok-count.ensures.value kept known clean) (omega (arith, c.if-papers-count.false)))
 
 pub returns-in_err-count-clause-fails : goal.returns-in_err-count-clause-fails
-returns-in_err-count-clause-fails g c kept shows clean narrow =
-    let it = shown_found (λ (x : GameRow). x.papers < 2 ^ 32) (is_named c.args.game.now) show_game (tables_in g.S.Store c.args.conn.now).games _ (sym c.in-Some.is ∙ c.in_ok-row.ensures.value kept clean) narrow in
-    sql_fails ⊥ _ _ c.in_err-count.field-0.0 c.from_residual-in_err-count.result c.from_residual-in_err-count.ensures.1 (λ none. absurd none)
-    (count_reads 6 _ it.one.papers c.in_err-count.field-0.0 c.in_err-count.ensures.named c.in_err-count.ensures.kind (subst (λ (r : Row). 6 < length r) (sym it.shown) (omega arith)) (ap (λ (r : Row). column r 6) it.shown) it.holds)
+returns-in_err-count-clause-fails g c kept known shows clean narrow =
+    same_fails _ _ ⊥ _ c.in_err-count.field-0.0 c.from_residual.result c.from_residual.ensures.1 (λ fault. fault) (λ none. absurd none) (c.in_err-count.ensures.fails kept shows clean narrow)
 
 pub returns-then-count-ge-MOST_PAPERS-clause-fails : goal.returns-then-count-ge-MOST_PAPERS-clause-fails
-returns-then-count-ge-MOST_PAPERS-clause-fails g c kept shows clean narrow = λ all.
-    let it = shown_found (λ (x : GameRow). is_named c.args.game.now x ≡ true → IsNextPaper c.args.papers x) (is_named c.args.game.now) show_game (tables_in g.S.Store c.args.conn.now).games _ (sym c.in-Some.is ∙ c.in_ok-row.ensures.value kept clean) all in
-    let same = same_count 6 c.in-Some.row it.one.papers c.in_ok-count.count (ap (λ (r : Row). column r 6) it.shown) c.in_ok-count.ensures.ok.1 in
+returns-then-count-ge-MOST_PAPERS-clause-fails g c kept known shows clean narrow = λ all.
+    let it = shown_found (λ (x : GameRow). is_named c.args.game.now x ≡ true → IsNextPaper c.args.papers x) (is_named c.args.game.now) (λ x. x.papers) (tables_in g.S.Store c.args.conn.now).games c.in-Some.count
+    (sym c.in-Some.is ∙ c.in_ok-count.ensures.value kept known clean) all in
     let few = (it.holds it.passes).1 in
-    let next : c.args.papers ≡ c.in_ok-count.count + 1 = (it.holds it.passes).0 ∙ ap (λ n. n + 1) (sym same) in
+    let next : c.args.papers ≡ c.in-Some.count + 1 = (it.holds it.passes).0 ∙ ap (λ n. n + 1) (sym it.shown) in
     elim c.then-count-ge-MOST_PAPERS.branch [
       | then-count-ge-MOST_PAPERS-via-then-count-ge-MOST_PAPERS w ↦ omega (arith, next, few, w)
       | then-count-ge-MOST_PAPERS-via-else-count-ge-MOST_PAPERS+then-papers-count w ↦ omega (arith, next, w)
     ]
+
+pub returns-in_err-count-clause-peeks : goal.returns-in_err-count-clause-peeks
+returns-in_err-count-clause-peeks g c =
+    peeks_passed g.S.Store {Y = Option ℕ} {F = RowFault} c.args.conn.now c.know_papers.new.conn c.in_err-count.field-0.0 c.from_residual.result c.from_residual.ensures.0 c.in_err-count.ensures.peeks
+
+pub returns-in_default-clause-peeks : goal.returns-in_default-clause-peeks
+returns-in_default-clause-peeks g c =
+    peeks_as g.S.Store {X = Option ℕ} {E = RowFault} {Y = Unit {0}} {F = RowFault} c.args.conn.now c.know_papers.new.conn c.in_ok-count.field-0 (Ok tt) c.in_ok-count.ensures.peeks
+
+pub returns-then-count-ge-MOST_PAPERS-clause-peeks : goal.returns-then-count-ge-MOST_PAPERS-clause-peeks
+returns-then-count-ge-MOST_PAPERS-clause-peeks g c =
+    peeks_as g.S.Store {X = Option ℕ} {E = RowFault} {Y = Unit {0}} {F = RowFault} c.args.conn.now c.know_papers.new.conn c.in_ok-count.field-0 (Err Misfit) c.in_ok-count.ensures.peeks
+
+pub returns-clause-peeks : goal.returns-clause-peeks
+returns-clause-peeks g c =
+    peeks_as g.S.Store {X = Option ℕ} {E = RowFault} {Y = Unit {0}} {F = RowFault} c.args.conn.now c.know_papers.new.conn c.in_ok-count.field-0 (Ok tt) c.in_ok-count.ensures.peeks

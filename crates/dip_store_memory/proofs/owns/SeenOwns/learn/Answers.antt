@@ -1,4 +1,4 @@
-use Rattle.std.proofs.Common.{◌≡◌, ◌∙◌, Some, rules, sym, true}
+use Rattle.std.proofs.Common.{◌≡◌, Some, rules, true}
 use Rattle.dip_desk_state.specs.Rows as rows
 use Rattle.dip_desk_state.specs.State.{own_at}
 use Rattle.dip_store_memory.specs.Owns.{is_short}

@@ -14,7 +14,7 @@ use Rattle.dip_store_sql.specs.Causes.{has_faulted}
 use Rattle.dip_store_sql.specs.Keys.{AreKeyed, OrdersDiffer}
 use Rattle.dip_store_changes.specs.Delivering.{delivering_all}
 use Rattle.dip_store_counts.specs.Noting.{noting_row}
-use Rattle.dip_store_rows.specs.Parts.{with_orders_over}
+use Rattle.dip_store_boards.specs.Orders.{with_orders_over}
 use Rattle.dip_store_counts.specs.declared.readers.Reader.{Reader}
 use Rattle.dip_store_counts.specs.declared.known.AuthorRow.{AuthorRow}
 use Rattle.dip_store_tables.specs.Legible.{AreOurs}

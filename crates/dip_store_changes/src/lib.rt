@@ -3,6 +3,7 @@
 
 mod authors;
 mod delivering;
+mod games;
 mod laws;
 mod making;
 mod parts;

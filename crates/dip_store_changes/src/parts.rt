@@ -13,10 +13,12 @@ ghost use Rattle.dip_store_changes.specs.Making.{GivenOrdersDiffer, changing_row
 
 use crate::authors::note_author;
 use crate::delivering::deliver;
+use crate::games::{open_game, publish};
 use dip_desk_state::{Author, Change, Effect, Standing, Vote};
 use dip_map::Map;
+use dip_store_boards::put_orders;
 use dip_store_counts::{AuthorRow, Reader};
-use dip_store_rows::{open_game, publish, put_orders, put_vote, replace};
+use dip_store_rows::{put_vote, replace};
 use sqlite::{Alter, Error, Transaction};
 use std::alloc::Global;
 use std::rc::Rc;

@@ -52,7 +52,7 @@ fn add_ballots<S: Alter>(
 }
 
 /// The game's choice is that of the board: whether it has the option INTENT.
-pub(crate) fn put_choice<S: Alter>(
+pub fn put_choice<S: Alter>(
     tx: &mut Transaction<'_, S>,
     game: &str,
     board: &Board,
@@ -68,7 +68,7 @@ pub(crate) fn put_choice<S: Alter>(
 
 /// The ballots of a new game's seats, which say `NO`, and its choice, that of its board. Rows that are there of a game of that name go
 /// first.
-pub(crate) fn open_votes<S: Alter>(
+pub fn open_votes<S: Alter>(
     tx: &mut Transaction<'_, S>,
     map: &Map,
     game: &str,

@@ -1,17 +1,12 @@
-//! What a change writes into the rows of each table, in a transaction.
+//! Rows of seats, ballots and choices as a change writes them, in a transaction, and the texts of columns.
 #![tactic(auto)]
 
 mod ballots;
-mod boards;
-mod games;
 mod items;
-mod orders;
 mod seats;
 mod texts;
 
-pub use ballots::put_vote;
-pub use boards::put_board;
-pub use games::{open_game, publish};
+pub use ballots::{open_votes, put_choice, put_vote};
 pub use items::{ItemTexts, item_texts};
-pub use orders::put_orders;
-pub use seats::replace;
+pub use seats::{add_seats, replace};
+pub use texts::{standoff_text, status_text};

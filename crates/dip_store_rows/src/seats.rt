@@ -28,7 +28,8 @@ fn add_new_seat<S: Alter>(
     Ok(())
 }
 
-pub(crate) fn add_seats<S: Alter>(
+/// Appends the rows of new seats, which have sent nothing.
+pub fn add_seats<S: Alter>(
     tx: &mut Transaction<'_, S>,
     map: &Map,
     game: &str,

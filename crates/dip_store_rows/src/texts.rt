@@ -9,7 +9,8 @@ use dip_map::Map;
 use dip_names::Prov;
 use std::alloc::{AllocError, Global};
 
-pub(crate) fn status_text(alloc: Global, map: &Map, status: &Status) -> Result<String, AllocError>
+/// The text of a status, as the column of a game has it.
+pub fn status_text(alloc: Global, map: &Map, status: &Status) -> Result<String, AllocError>
     ensures { IfOk result (λ t. string_bytes t ≡ status_text map.now (records.status status.now)) }
 {
     let mut out = String::new(alloc);
@@ -38,7 +39,7 @@ fn rest(provs: &[Prov]) -> &[Prov]
 
 /// The codes of provinces, joined by spaces.
 #[tactic(auto, using(crate::proofs::Joining::codes_none))]
-pub(crate) fn standoff_text(alloc: Global, map: &Map, provs: &[Prov]) -> Result<String, AllocError>
+pub fn standoff_text(alloc: Global, map: &Map, provs: &[Prov]) -> Result<String, AllocError>
     ensures { IfOk result (λ t. string_bytes t ≡ standoff_text map.now provs.now) }
 {
     let mut out = String::new(alloc);

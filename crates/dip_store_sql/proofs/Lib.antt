@@ -40,6 +40,7 @@ pub mod Calls
 pub mod Failing
 pub mod Joining
 pub mod Keyed
+pub mod Leading
 pub mod Passing
 pub mod Ruled
 pub mod Sane

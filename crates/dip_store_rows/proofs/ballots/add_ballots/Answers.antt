@@ -4,7 +4,7 @@ use Rattle.dip_store_tables.specs.Writing.{ballot_row}
 use Rattle.dip_store_sql.proofs.Joining.{does_and, does_fail, does_more}
 use Rattle.dip_store_sql.specs.Keys.{BallotsDiffer, same_ballot}
 use Rattle.dip_store_sql.specs.TablesAfter.{more_ballots}
-use Rattle.dip_store_rows.proofs.Apart.{both_apart}
+use Rattle.dip_store_sql.proofs.Leading.{both_apart}
 use Rattle.dip_store_rows.proofs.Adding.{ballots_more}
 use Rattle.dip_store_sql.proofs.Parts.{taken_both}
 use Rattle.dip_store_rows.proofs.ballots.add_ballots.Goals as goal

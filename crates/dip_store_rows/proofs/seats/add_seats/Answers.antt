@@ -5,7 +5,7 @@ use Rattle.dip_store_tables.specs.Writing.{seat_row}
 use Rattle.dip_store_sql.proofs.Joining.{does_and, does_fail, does_more}
 use Rattle.dip_store_sql.specs.Keys.{SeatsDiffer}
 use Rattle.dip_store_rows.specs.Parts.{more_seats}
-use Rattle.dip_store_rows.proofs.Apart.{both_apart}
+use Rattle.dip_store_sql.proofs.Leading.{both_apart}
 use Rattle.dip_store_rows.proofs.Adding.{seats_more}
 use Rattle.dip_store_sql.proofs.Parts.{taken_both}
 use Rattle.dip_store_rows.proofs.seats.add_seats.Goals as goal

@@ -1,0 +1,4 @@
+pub mod Adding
+pub mod Centres
+pub mod Owners
+pub mod Placing

@@ -6,8 +6,8 @@ use Rattle.sqlite.specs.Held.{Held, state}
 use Rattle.dip_map.specs.Charts.{Chart}
 use Rattle.dip_desk_state.specs.State.{Game, State, game_at}
 use Rattle.std.specs.Io.KnownBytes.{Appends}
-use Rattle.dip_store.specs.Papers.{AreBegun, AreOut, BreaksOff, papers_text}
-use Rattle.dip_store.specs.declared.paper_faults.PaperFault.{PaperFault}
+use Rattle.dip_desk_archive.specs.Papers.{AreBegun, AreOut, BreaksOff, papers_text}
+use Rattle.dip_desk_archive.specs.declared.paper_faults.PaperFault.{PaperFault}
 use Rattle.dip_judge_runs.specs.RunFaults.{StopsBy}
 use Rattle.dip_judge_runs.specs.Runs.{AnswersAll, IsReadWhole, IsUntouched, Stops, StopsAt, TakesNext}
 use Rattle.dip_judge_runs.specs.declared.run.RunFault.{RunFault}

@@ -4,8 +4,8 @@ use Rattle.std.specs.Fmt.{decimal}
 use Rattle.std.specs.declared.io.ErrorKind.{ErrorKind}
 use Rattle.std.specs.declared.io.ErrorKind.TheVariants.{OutOfMemory}
 use Rattle.dip_check_runs.specs.Faults.{check_fault_name}
-use Rattle.dip_store.specs.Papers.{paper_fault_name}
-use Rattle.dip_store.specs.declared.paper_faults.PaperFault.TheVariants as paper
+use Rattle.dip_desk_archive.specs.Papers.{paper_fault_name}
+use Rattle.dip_desk_archive.specs.declared.paper_faults.PaperFault.TheVariants as paper
 use Rattle.dip_judge_words.specs.declared.faults.UsageFault.{UsageFault}
 use Rattle.dip_judge_words.specs.declared.faults.UsageFault.TheVariants.{Clap, Check, Memory as no_words}
 use Rattle.dip_desk_state.specs.Faults.{keep_fault_name}

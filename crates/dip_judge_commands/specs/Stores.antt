@@ -7,8 +7,8 @@ use Rattle.sqlite.specs.Held.{Held, state}
 use Rattle.dip_map.specs.Charts.{Chart}
 use Rattle.dip_desk_state.specs.State.{State, game_at}
 use Rattle.dip_desk_state.specs.declared.faults.KeepFault.TheVariants as keep
-use Rattle.dip_store.specs.Papers.{AreBegun, papers_text}
-use Rattle.dip_store.specs.declared.paper_faults.PaperFault.TheVariants as paper
+use Rattle.dip_desk_archive.specs.Papers.{AreBegun, papers_text}
+use Rattle.dip_desk_archive.specs.declared.paper_faults.PaperFault.TheVariants as paper
 use Rattle.dip_store.specs.Calls.{is_honest}
 use Rattle.dip_store.specs.Opening.{Holds, IsMadeForText, IsShutBy, StaysShut, StoreEnds}
 use Rattle.dip_store.specs.StoreFault.{StoreFault}

@@ -6,10 +6,11 @@ ghost use Rattle.dip_judge_commands.specs.declared.failures.Failure.TheVariants.
 ghost use Rattle.std.specs.IoError.{error_kind};
 
 use dip_check_runs::CheckFault;
+use dip_desk_archive::PaperFault;
 use dip_desk_state::KeepFault;
 use dip_judge_runs::{NoMap, RunFault};
 use dip_judge_words::UsageFault;
-use dip_store::{PaperFault, StoreFault};
+use dip_store::StoreFault;
 use std::alloc::AllocError;
 use std::{fmt, io};
 

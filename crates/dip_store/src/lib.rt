@@ -10,5 +10,5 @@ mod opening;
 mod papers;
 mod shared;
 
-pub use dip_store_schema::{StoreFault, open_fault};
+pub use dip_store_schema::StoreFault;
 pub use keeper::SqlKeeper;

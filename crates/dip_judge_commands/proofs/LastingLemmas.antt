@@ -22,15 +22,15 @@ use Rattle.dip_judge_runs.specs.declared.run.RunFault.TheVariants as run
 use Rattle.dip_store.specs.Causes.{has_faulted}
 use Rattle.dip_store.proofs.Opened.{made_for, renewed_for}
 use Rattle.dip_store.specs.Opening.{AreOf, Holds, IsMadeForText, IsNowOf, IsRenewedFrom, IsSameOrRenewed, LeavesText, SayText, Says, StaysShut, StoreEnds}
-use Rattle.dip_store.specs.Papers.{papers_of}
+use Rattle.dip_desk_archive.specs.Papers.{papers_of}
 use Rattle.dip_store.specs.Stored.{IsStoreOf, book, said_by}
 use Rattle.dip_store.specs.declared.keeper.SqlKeeper.{SqlKeeper}
-use Rattle.dip_store.specs.declared.paper_faults.PaperFault.{PaperFault}
-use Rattle.dip_store.specs.declared.paper_faults.PaperFault.TheVariants as paper
+use Rattle.dip_desk_archive.specs.declared.paper_faults.PaperFault.{PaperFault}
+use Rattle.dip_desk_archive.specs.declared.paper_faults.PaperFault.TheVariants as paper
 use Rattle.dip_judge_commands.specs.Lasting.{IsDamage, Lasts, LeavesLawful, SaysLawful}
 use Rattle.dip_judge_commands.specs.Stores.{AnswersFrom, IsOfDisk, ServesFrom, ServesUpTo, StopsFrom}
-use Rattle.dip_judge_commands.specs.declared.failures.Failure.{Failure}
-use Rattle.dip_judge_commands.specs.declared.failures.Failure.TheVariants.{Papers, Run, Serving}
+use Rattle.dip_judge_system.specs.declared.failures.Failure.{Failure}
+use Rattle.dip_judge_system.specs.declared.failures.Failure.TheVariants.{Papers, Run, Serving}
 
 -- which faults say that rows are Damaged
 

@@ -6,8 +6,8 @@ use Rattle.sqlite.specs.Held.{Held, state}
 use Rattle.dip_map.specs.Charts.{Chart}
 use Rattle.dip_desk_state.specs.State.{Game, State, game_at}
 use Rattle.std.specs.Io.KnownBytes.{Appends}
-use Rattle.dip_store.specs.Papers.{AreBegun, AreOut, BreaksOff, papers_text}
-use Rattle.dip_store.specs.declared.paper_faults.PaperFault.{PaperFault}
+use Rattle.dip_desk_archive.specs.Papers.{AreBegun, AreOut, BreaksOff, papers_text}
+use Rattle.dip_desk_archive.specs.declared.paper_faults.PaperFault.{PaperFault}
 use Rattle.dip_judge_runs.specs.RunFaults.{StopsBy}
 use Rattle.dip_judge_runs.specs.Runs.{AnswersAll, IsReadWhole, IsUntouched, Stops, StopsAt, TakesNext}
 use Rattle.dip_judge_runs.specs.declared.run.RunFault.{RunFault}
@@ -22,8 +22,8 @@ use Rattle.dip_store.proofs.Opened.{ends_held, held_by}
 use Rattle.dip_store.specs.declared.keeper.SqlKeeper.{SqlKeeper}
 use Rattle.dip_judge_commands.specs.Stores.{AnswersFrom, BlamesDisk, IsOfDisk, ReadsUpTo, Reports, ServesFrom, ServesUpTo, StopsFrom, StopsIn, StopsReport, StopsServing}
 use Rattle.dip_http.specs.Serving.{Serves, ServesEach, ServesTo}
-use Rattle.dip_judge_commands.specs.declared.failures.Failure.{Failure}
-use Rattle.dip_judge_commands.specs.declared.failures.Failure.TheVariants.{Checking, Listen, Map, NoGame, NoMemory, Negative, Papers, Run, Serving, Store, Usage}
+use Rattle.dip_judge_system.specs.declared.failures.Failure.{Failure}
+use Rattle.dip_judge_system.specs.declared.failures.Failure.TheVariants.{Checking, Listen, Map, NoGame, NoMemory, Negative, Papers, Run, Serving, Store, Usage}
 
 -- an opened keeper is open
 pub is_open : {S : Type 0} (g : Ghosts S) (m : Chart) (s : State) (k : SqlKeeper S) → Opens g m s k → IsOpen m (book g) k

@@ -1,5 +1,5 @@
 -- The program, from its words, its map and its input to what it writes.
-use Rattle.std.specs.Prelude.{◌≡◌, ℕ, List, Option, false, true}
+use Rattle.std.specs.Prelude.{◌≡◌, ℕ, List, Option, true}
 use Rattle.std.specs.Io.KnownBytes.{Appends}
 use Rattle.clap.specs.Words.{Text}
 use Rattle.dip_map.specs.Charts.{Chart}
@@ -11,10 +11,11 @@ use Rattle.dip_judge_runs.specs.MapFiles.{IsMapOf, IsNoMapOf}
 use Rattle.dip_judge_runs.specs.Runs.{IsReadToEnd}
 use Rattle.dip_judge_runs.specs.Fresh.{AnswersFresh, IsCutShort}
 use Rattle.dip_judge_commands.specs.Stores.{IsIdle, IsReportFailure, IsServeFailure, ReadsUpTo}
-use Rattle.dip_check_runs.specs.Runs.{EndsBegun, EndsEarly, IsChecked, IsExplained, TellsIfGame}
-use Rattle.dip_judge_commands.specs.Version.{FailsVersion, version_text}
-use Rattle.dip_judge_commands.specs.declared.failures.Failure.{Failure}
-use Rattle.dip_judge_commands.specs.declared.failures.Failure.TheVariants.{Checking, Negative, Usage, Map, Store, Run}
+use Rattle.dip_check_runs.specs.Runs.{IsChecked, IsExplained, TellsIfGame}
+use Rattle.dip_judge_system.specs.Checking.{FailsCheck, FailsExplaining}
+use Rattle.dip_judge_system.specs.Version.{FailsVersion, version_text}
+use Rattle.dip_judge_system.specs.declared.failures.Failure.{Failure}
+use Rattle.dip_judge_system.specs.declared.failures.Failure.TheVariants.{Usage, Map, Store, Run}
 
 -- the words ask for this, which is fit, and the map is the one that they name
 abbrev pub IsAsked : List ℕ → List Text → Args → Chart → Type 0
@@ -60,18 +61,6 @@ IsInitFailure failure = ⊥
 abbrev pub EndsFresh : Chart → Text → Option (List ℕ) → Option (List ℕ) → Option (List ℕ) → Option (List ℕ) → Failure → Type 0
 EndsFresh m secret known left before after (Run fault) = IsCutShort m secret fault known left before after
 EndsFresh m secret known left before after failure = ⊥
-
--- papers weren't found right, which was told, and they are no game's; or it couldn't be told
-abbrev pub FailsCheck : Chart → Option (List ℕ) → Option (List ℕ) → Option (List ℕ) → Option (List ℕ) → Failure → Type 0
-FailsCheck m known left before after Negative = IsChecked m known left before after false × TellsIfGame m known false
-FailsCheck m known left before after (Checking fault) = EndsEarly m known before after fault
-FailsCheck m known left before after failure = ⊥
-
--- there was no explanation, and why was told; or it couldn't be told
-abbrev pub FailsExplaining : Chart → ℕ → Option (List ℕ) → Option (List ℕ) → Option (List ℕ) → Option (List ℕ) → Failure → Type 0
-FailsExplaining m number known left before after Negative = IsExplained m number known left before after false
-FailsExplaining m number known left before after (Checking fault) = EndsBegun m number known left before after fault
-FailsExplaining m number known left before after failure = ⊥
 
 -- why a command ends early, and what it read and wrote up to there
 abbrev pub Fails : Chart → Option (List ℕ) → Option (List ℕ) → Option (List ℕ) → Option (List ℕ) → Args → Failure → Type 0

@@ -14,10 +14,10 @@ use Rattle.dip_judge_words.specs.declared.args.Args.{Args}
 use Rattle.dip_judge_words.specs.declared.args.Args.TheVariants.{Init, Letters, Stored, Serve, Report, Check, Explain, Version}
 use Rattle.dip_store.specs.Calls.{is_honest}
 use Rattle.dip_store.specs.Opening.{AreOf, IsDesk, IsMadeForText, Says}
-use Rattle.dip_store.specs.declared.paper_faults.PaperFault.TheVariants as paper
+use Rattle.dip_desk_archive.specs.declared.paper_faults.PaperFault.TheVariants as paper
 use Rattle.dip_judge_commands.specs.Files.{HasFaults, IsFoundIn}
-use Rattle.dip_judge_commands.specs.declared.failures.Failure.{Failure}
-use Rattle.dip_judge_commands.specs.declared.failures.Failure.TheVariants.{Papers, Run, Serving}
+use Rattle.dip_judge_system.specs.declared.failures.Failure.{Failure}
+use Rattle.dip_judge_system.specs.declared.failures.Failure.TheVariants.{Papers, Run, Serving}
 
 -- keepers wrote the database by the map of this text, and its rows say a lawful state
 abbrev pub SaysLawful : Chart → List ℕ → Database → Type 0

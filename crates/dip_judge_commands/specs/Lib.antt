@@ -1,6 +1,5 @@
 pub mod Stores
-pub mod Failures
-pub mod Version
 pub mod Files
 pub mod Lasting
 pub mod Asked
+pub use Rattle.dip_judge_system.specs.Failures

@@ -7,30 +7,17 @@ use Rattle.sqlite.specs.Held.{Held, state}
 use Rattle.dip_map.specs.Charts.{Chart}
 use Rattle.dip_desk_state.specs.State.{State, game_at}
 use Rattle.dip_desk_state.specs.declared.faults.KeepFault.TheVariants as keep
-use Rattle.dip_store.specs.Papers.{AreBegun, papers_text}
-use Rattle.dip_store.specs.declared.paper_faults.PaperFault.TheVariants as paper
+use Rattle.dip_desk_archive.specs.Papers.{AreBegun, papers_text}
+use Rattle.dip_desk_archive.specs.declared.paper_faults.PaperFault.TheVariants as paper
 use Rattle.dip_store.specs.Calls.{is_honest}
 use Rattle.dip_store.specs.Opening.{Holds, IsMadeForText, IsShutBy, StaysShut, StoreEnds}
-use Rattle.dip_store.specs.StoreFault.{StoreFault}
-use Rattle.dip_store.specs.StoreFault.TheVariants.{Memory, Disk, OtherSchema}
 use Rattle.dip_judge_runs.specs.RunFaults.{StopsBy}
 use Rattle.dip_judge_runs.specs.Runs.{AnswersAll, IsReadToEnd, IsReadWhole, Stops, TakesNext}
 use Rattle.dip_judge_runs.specs.declared.run.RunFault.{RunFault}
 use Rattle.dip_judge_runs.specs.declared.run.RunFault.TheVariants as run
 use Rattle.dip_http.specs.Serving.{IsShut, Serves, TakesOne}
-use Rattle.dip_judge_commands.specs.declared.failures.Failure.{Failure}
-use Rattle.dip_judge_commands.specs.declared.failures.Failure.TheVariants.{Listen, NoGame, NoMemory, Papers, Run, Serving, Store}
-
--- a file that isn't opened: want of memory, or the disk
-abbrev pub IsOpenFault : StoreFault → Type 0
-IsOpenFault Memory = Unit {0}
-IsOpenFault Disk = Unit {0}
-IsOpenFault _ = ⊥
-
--- a file that isn't found or isn't opened: there is no such file, or want of memory, or the disk
-abbrev pub IsFindFault : StoreFault → Type 0
-IsFindFault OtherSchema = Unit {0}
-IsFindFault fault = IsOpenFault fault
+use Rattle.dip_judge_system.specs.declared.failures.Failure.{Failure}
+use Rattle.dip_judge_system.specs.declared.failures.Failure.TheVariants.{Listen, NoGame, NoMemory, Papers, Run, Serving, Store}
 
 -- what an answer over a store tells of its map: the store isn't opened, for such a reason; else it
 -- was made for the map of this text

@@ -9,11 +9,10 @@ ghost use Rattle.dip_store.specs.Calls.{does_show, is_honest};
 ghost use Rattle.dip_store.specs.Causes.{has_faulted};
 ghost use Rattle.dip_store.specs.Opening.{Holds, IsDesk, IsNowOf, IsUnmadeBy, LeavesText, Says, SaysText};
 
-use crate::failures::Failure;
-use crate::system::{Stored, System};
 use dip_desk_machine::lawful_states_stay_lawful;
 use dip_http::{Routes, serve_all};
 use dip_judge_runs::run_file;
+use dip_judge_system::{Failure, Stored, System};
 use dip_letters::digest;
 use dip_map::Map;
 use dip_store::{SqlKeeper, StoreFault};

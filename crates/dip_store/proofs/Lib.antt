@@ -10,8 +10,5 @@ pub mod Made
 pub mod Marked
 pub mod Opened
 pub mod Outside
-pub mod Numbers
-pub mod Parts
 pub mod Recalled
-pub mod Walking
 pub mod Renewal

@@ -3,7 +3,6 @@ pub mod Laws
 pub mod Faults
 pub mod Opening
 pub mod Stored
-pub mod Papers
 pub use Rattle.dip_store_schema.specs.Renewing
 pub use Rattle.dip_store_schema.specs.declared.faults.StoreFault
 pub use Rattle.dip_store_sql.specs.Calls

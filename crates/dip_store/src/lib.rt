@@ -7,11 +7,8 @@ mod faults;
 mod fitting_laws;
 mod keeper;
 mod opening;
-mod paper_faults;
 mod papers;
 mod shared;
 
-pub use archive::write_papers;
-pub use dip_store_schema::{StoreFault, open_fault};
+pub use dip_store_schema::StoreFault;
 pub use keeper::SqlKeeper;
-pub use paper_faults::PaperFault;

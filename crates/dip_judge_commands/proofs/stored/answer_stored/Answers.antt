@@ -5,7 +5,7 @@ use Rattle.dip_judge_commands.proofs.LastingLemmas.{answers_last, damage_run, di
 use Rattle.dip_judge_commands.proofs.StoredLemmas.{answers_from, blamed, is_open, shut_by, stops_from}
 use Rattle.dip_store.proofs.Opened.{leaves_text}
 use Rattle.dip_store.specs.Opening.{IsNowOf}
-use Rattle.dip_judge_commands.specs.declared.failures.Failure.TheVariants.{Run}
+use Rattle.dip_judge_system.specs.declared.failures.Failure.TheVariants.{Run}
 use Rattle.dip_judge_commands.proofs.stored.answer_stored.Goals as goal
 
 pub returns-in-Ok-run_file-clause-done : goal.returns-in-Ok-run_file-clause-done

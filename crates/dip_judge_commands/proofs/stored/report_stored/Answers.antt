@@ -1,11 +1,11 @@
 use Rattle.std.proofs.Common.{Err, ap, refl, subst, sym}
 use Rattle.dip_desk_machine.specs.Lawful.{IsLawful}
-use Rattle.dip_store.specs.declared.paper_faults.PaperFault.{PaperFault}
+use Rattle.dip_desk_archive.specs.declared.paper_faults.PaperFault.{PaperFault}
 use Rattle.dip_judge_commands.proofs.LastingLemmas.{damage_papers, disk_papers, ends_lawful, few_papers, holds_lawful, shut_lawful}
 use Rattle.dip_judge_commands.proofs.StoredLemmas.{blamed, breaks_off, ends_still, holds_still, is_open, reports, reports_none, shut_by}
 use Rattle.dip_store.proofs.Opened.{leaves_text}
 use Rattle.dip_store.specs.Opening.{IsNowOf}
-use Rattle.dip_judge_commands.specs.declared.failures.Failure.TheVariants.{Papers}
+use Rattle.dip_judge_system.specs.declared.failures.Failure.TheVariants.{Papers}
 use Rattle.dip_judge_commands.proofs.stored.report_stored.Goals as goal
 
 pub returns-in-Ok-Some-clause-done : goal.returns-in-Ok-Some-clause-done

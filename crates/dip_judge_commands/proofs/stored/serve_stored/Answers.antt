@@ -4,7 +4,7 @@ use Rattle.dip_judge_commands.proofs.LastingLemmas.{both_last, clients_text, dis
 use Rattle.dip_judge_commands.proofs.StoredLemmas.{blamed, ends_still, holds, is_open, serves_from, serves_up_to, shut_by}
 use Rattle.dip_store.proofs.Opened.{leaves_text}
 use Rattle.dip_desk_state.specs.declared.faults.KeepFault.{KeepFault}
-use Rattle.dip_judge_commands.specs.declared.failures.Failure.TheVariants.{Serving}
+use Rattle.dip_judge_system.specs.declared.failures.Failure.TheVariants.{Serving}
 use Rattle.dip_judge_commands.proofs.stored.serve_stored.Goals as goal
 
 pub returns-in-Ok-serve_all-clause-done : goal.returns-in-Ok-serve_all-clause-done

@@ -7,7 +7,7 @@ use Rattle.std.specs.List.{flat_map}
 use Rattle.std.specs.Io.KnownBytes.{Appends}
 use Rattle.std.proofs.KnownBytes.{Appends-trans}
 use Rattle.dip_streams.proofs.TextLemmas.{part_written}
-use Rattle.dip_store.proofs.Numbers.{one_more}
+use Rattle.dip_desk_archive.proofs.Numbers.{one_more}
 
 abbrev text : List (List ℕ) → List ℕ
 text ps = flat_map (λ p. p) ps

@@ -1,7 +1,7 @@
 //! What the program is.
 ghost use Rattle.std.specs.Prelude.{IfErr, OnOk};
 ghost use Rattle.std.specs.Io.KnownBytes.{Appends};
-ghost use Rattle.dip_judge_commands.specs.Version.{FailsVersion, version_text};
+ghost use Rattle.dip_judge_system.specs.Version.{FailsVersion, version_text};
 
 use crate::failures::Failure;
 use dip_judge_runs::RunFault;
@@ -20,7 +20,7 @@ proved by Rattle, logic dac8208d650f15bf
 ///
 /// # Errors
 /// `Write`, where the writer fails, and a beginning of it was written.
-pub(crate) fn write_version<W: Write>(writer: &mut W) -> Result<(), Failure>
+pub fn write_version<W: Write>(writer: &mut W) -> Result<(), Failure>
     ensures ok { OnOk result
         (Appends (W.contents writer.old) (W.contents writer.new) version_text) }
     ensures err { IfErr result

@@ -1,11 +1,11 @@
 use Rattle.std.proofs.Common.{◌+◌, ◌-◌, ◌≤◌, ℕ, length, take}
 use Rattle.std.specs.List.{flat_map}
 use Rattle.std.specs.Io.KnownBytes.{Appends}
-use Rattle.dip_store.specs.Papers.{Walks, papers_of}
-use Rattle.dip_store.proofs.Walking.{went}
+use Rattle.dip_desk_archive.specs.Papers.{Walks, papers_of}
+use Rattle.dip_desk_archive.proofs.Walking.{went}
 use Rattle.dip_desk_state.specs.Bounds.{most_papers}
 use Rattle.dip_desk_state.specs.State.{game_at}
-use Rattle.dip_store.proofs.archive.write_all.Given as goal
+use Rattle.dip_desk_archive.proofs.archive.write_all.Given as goal
 
 abbrev pub invariant-papers : goal.invariant-papers
 invariant-papers g l =

@@ -3,7 +3,7 @@ use Rattle.std.proofs.Common.{◌≡◌, ◌+◌, ◌<◌, ◌≤◌, ℕ, zero,
 use Rattle.std.proofs.lemmas.List.{take_more}
 use Rattle.std.proofs.lemmas.List.Concat.{flat_map-append}
 use Rattle.std.specs.List.{flat_map}
-use Rattle.dip_store.specs.Papers.{papers_of}
+use Rattle.dip_desk_archive.specs.Papers.{papers_of}
 use Rattle.dip_desk_state.specs.State.{Game, State, game_at, paper_at, paper_numbered}
 
 -- the paper after so many others

@@ -2,8 +2,8 @@
 use Rattle.std.specs.Prelude.{◌≡◌, ◌<◌, ◌≤◌, ◌⊎◌, ℕ, List, [], Option, None, Some, IfOk, IsErrOf, OnErr, Result, Ok, Err, codes, length, take}
 use Rattle.std.specs.List.{flat_map}
 use Rattle.std.specs.Io.KnownBytes.{Appends}
-use Rattle.dip_store.specs.declared.paper_faults.PaperFault.{PaperFault}
-use Rattle.dip_store.specs.declared.paper_faults.PaperFault.TheVariants.{Write, Keep}
+use Rattle.dip_desk_archive.specs.declared.paper_faults.PaperFault.{PaperFault}
+use Rattle.dip_desk_archive.specs.declared.paper_faults.PaperFault.TheVariants.{Write, Keep}
 use Rattle.dip_map.specs.Charts.{Chart}
 use Rattle.dip_desk_keeper.specs.Keeping.{Book, Ends, IsOpen, WasTold}
 use Rattle.dip_desk_state.specs.Bounds.{most_papers}

@@ -4,17 +4,17 @@ use Rattle.std.specs.Fmt.{decimal}
 use Rattle.std.specs.declared.io.ErrorKind.{ErrorKind}
 use Rattle.std.specs.declared.io.ErrorKind.TheVariants.{OutOfMemory}
 use Rattle.dip_check_runs.specs.Faults.{check_fault_name}
-use Rattle.dip_store.specs.Papers.{paper_fault_name}
-use Rattle.dip_store.specs.declared.paper_faults.PaperFault.TheVariants as paper
+use Rattle.dip_desk_archive.specs.Papers.{paper_fault_name}
+use Rattle.dip_desk_archive.specs.declared.paper_faults.PaperFault.TheVariants as paper
 use Rattle.dip_judge_words.specs.declared.faults.UsageFault.{UsageFault}
 use Rattle.dip_judge_words.specs.declared.faults.UsageFault.TheVariants.{Clap, Check, Memory as no_words}
 use Rattle.dip_desk_state.specs.Faults.{keep_fault_name}
 use Rattle.dip_judge_runs.specs.Names.{no_map_name, run_name}
 use Rattle.dip_judge_runs.specs.declared.map_file.NoMap.TheVariants as no_map
 use Rattle.dip_judge_runs.specs.declared.run.RunFault.TheVariants as run
-use Rattle.dip_store.specs.Faults.{store_fault_name}
-use Rattle.dip_judge_commands.specs.declared.failures.Failure.{Failure}
-use Rattle.dip_judge_commands.specs.declared.failures.Failure.TheVariants.{Usage, Map, Store, NoMemory, Listen, Run, Serving, NoGame, Papers, Checking, Negative}
+use Rattle.dip_store_schema.specs.Faults.{store_fault_name}
+use Rattle.dip_judge_system.specs.declared.failures.Failure.{Failure}
+use Rattle.dip_judge_system.specs.declared.failures.Failure.TheVariants.{Usage, Map, Store, NoMemory, Listen, Run, Serving, NoGame, Papers, Checking, Negative}
 
 -- the exit status: 1 where the answer is no, 2 for the arguments, 3 for the map, 4 for the store, its keeper and a game that isn't there, 5 for a map's file, the
 -- port, input, output or other want of memory

@@ -1,11 +1,11 @@
 use Rattle.std.proofs.Common.{rules, ◌≡◌, ◌+◌, ℕ, Err, None, Some, ap, suc, string_bytes, subst, arith, ◌∙◌}
 use Rattle.std.proofs.lemmas.Result.{err_from_is_err_and}
 use Rattle.dip_desk_state.specs.State.{State, paper_at}
-use Rattle.dip_store.proofs.Numbers.{found, no_more}
-use Rattle.dip_store.proofs.Parts.{all, begun, begun_more, more}
-use Rattle.dip_store.proofs.Walking.{breaks_off, broken, damages, ends_by, goes_on, goes_open, whole}
-use Rattle.dip_store.specs.declared.paper_faults.PaperFault.{PaperFault}
-use Rattle.dip_store.proofs.archive.write_all.Goals as goal
+use Rattle.dip_desk_archive.proofs.Numbers.{found, no_more}
+use Rattle.dip_desk_archive.proofs.Parts.{all, begun, begun_more, more}
+use Rattle.dip_desk_archive.proofs.Walking.{breaks_off, broken, damages, ends_by, goes_on, goes_open, whole}
+use Rattle.dip_desk_archive.specs.declared.paper_faults.PaperFault.{PaperFault}
+use Rattle.dip_desk_archive.proofs.archive.write_all.Goals as goal
 
 pub returns-in_err-paper : goal.returns-in_err-paper
 returns-in_err-paper g c =

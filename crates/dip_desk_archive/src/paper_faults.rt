@@ -1,6 +1,6 @@
 //! Why papers aren't written out.
 ghost use Rattle.std.specs.Prelude.{◌≡◌};
-ghost use Rattle.dip_store.specs.Papers.{paper_fault_name};
+ghost use Rattle.dip_desk_archive.specs.Papers.{paper_fault_name};
 
 use dip_desk_state::KeepFault;
 use std::error::Error;
@@ -40,7 +40,7 @@ impl fmt::Display for PaperFault {
 impl Error for PaperFault {}
 
 impl From<KeepFault> for PaperFault {
-    ghost use Rattle.dip_store.specs.declared.paper_faults.PaperFault.TheVariants.{Keep};
+    ghost use Rattle.dip_desk_archive.specs.declared.paper_faults.PaperFault.TheVariants.{Keep};
 
     ghost from_gives = { λ fault told. told ≡ Keep fault };
 

@@ -1,15 +1,16 @@
 //! Why the program ends early: its exit status, and what it prints on standard error.
 ghost use Rattle.std.specs.Prelude.{◌≡◌, ◌≤◌};
 ghost use Rattle.dip_judge_words.specs.declared.faults.UsageFault.TheVariants.{Memory as no_words};
-ghost use Rattle.dip_judge_commands.specs.Failures.{exit_status, status_of, words_fault};
-ghost use Rattle.dip_judge_commands.specs.declared.failures.Failure.TheVariants.{Usage};
+ghost use Rattle.dip_judge_system.specs.Failures.{exit_status, status_of, words_fault};
+ghost use Rattle.dip_judge_system.specs.declared.failures.Failure.TheVariants.{Usage};
 ghost use Rattle.std.specs.IoError.{error_kind};
 
 use dip_check_runs::CheckFault;
+use dip_desk_archive::PaperFault;
 use dip_desk_state::KeepFault;
 use dip_judge_runs::{NoMap, RunFault};
 use dip_judge_words::UsageFault;
-use dip_store::{PaperFault, StoreFault};
+use dip_store_schema::StoreFault;
 use std::alloc::AllocError;
 use std::{fmt, io};
 
@@ -44,8 +45,8 @@ pub enum Failure {
 }
 
 impl Failure {
-    /// The exit status: 1 where the answer is no, 2 for the arguments, 3 for the map, 4 for the store, its keeper and a game that isn't there, 5 for a map's
-    /// file, the port, input, output or other want of memory.
+    /// The exit status that is told of it: 1 where the answer is no, 2 for the arguments, 3 for the map, 4 for the store, its keeper and a game
+    /// that isn't there, 5 for a map's file, the port, input, output or other want of memory.
     pub fn status(&self) -> u8
         ensures status { result ≡ status_of self.now }
         ensures most { result ≤ 5 }
@@ -82,7 +83,7 @@ pub fn status_of(outcome: &Result<(), Failure>) -> u8
 }
 
 impl fmt::Display for Failure {
-    ghost use Rattle.dip_judge_commands.specs.Failures.{printed};
+    ghost use Rattle.dip_judge_system.specs.Failures.{printed};
 
     ghost output = { λ f. printed f };
 

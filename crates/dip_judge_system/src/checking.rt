@@ -1,7 +1,7 @@
 //! Papers that are checked, or explained.
 ghost use Rattle.std.specs.Prelude.{IfErr, OnOk, true};
 ghost use Rattle.dip_check_runs.specs.Runs.{IsChecked, IsExplained, TellsIfGame};
-ghost use Rattle.dip_judge_commands.specs.Asked.{FailsCheck, FailsExplaining};
+ghost use Rattle.dip_judge_system.specs.Checking.{FailsCheck, FailsExplaining};
 
 use crate::failures::Failure;
 use dip_check_runs::{Progress, check_papers, explain_paper};
@@ -13,7 +13,7 @@ use std::io::{Read, Write};
 ///
 /// # Errors
 /// `Negative`, and what isn't was written; or what `check_papers` has.
-pub(crate) fn check<R: Read, W: Write, P: Progress>(
+pub fn check<R: Read, W: Write, P: Progress>(
     alloc: Global,
     reader: &mut R,
     writer: &mut W,
@@ -37,7 +37,7 @@ pub(crate) fn check<R: Read, W: Write, P: Progress>(
 ///
 /// # Errors
 /// `Negative`, and why there is no explanation was written; or what `explain_paper` has.
-pub(crate) fn explain<R: Read, W: Write>(
+pub fn explain<R: Read, W: Write>(
     alloc: Global,
     reader: &mut R,
     writer: &mut W,

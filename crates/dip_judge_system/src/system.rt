@@ -4,8 +4,8 @@ ghost use Rattle.sqlite.specs.Files.{IsOpened, file_state};
 ghost use Rattle.sqlite.specs.Start.{FindsIn};
 ghost use Rattle.sqlite.specs.State.{HasCleanDisk};
 ghost use Rattle.sqlite.specs.WalFiles.{image_at};
-ghost use Rattle.dip_judge_commands.specs.Failures.{listening_text, progress_text};
-ghost use Rattle.dip_judge_commands.specs.Stores.{IsOpenFault, IsFindFault};
+ghost use Rattle.dip_judge_system.specs.Failures.{listening_text, progress_text};
+ghost use Rattle.dip_judge_system.specs.FileFaults.{IsFindFault, IsOpenFault};
 ghost use Rattle.dip_judge_runs.specs.MapFiles as said;
 ghost use Rattle.dip_judge_runs.specs.MapFiles.{IsMapOf, IsNoMapOf};
 
@@ -13,7 +13,7 @@ use dip_check_runs::Progress;
 use dip_judge_runs::{NoMap, read_map};
 use dip_map::Map;
 use dip_map_text::STANDARD;
-use dip_store::{StoreFault, open_fault};
+use dip_store_schema::{StoreFault, open_fault};
 use mio::net;
 use sqlite::{Connection, FileFrom, FileStore, Start};
 use std::alloc::Global;
@@ -46,7 +46,7 @@ impl<'a> System<'a> {
 
 impl System<'_> {
     /// What takes memory.
-    pub(crate) fn alloc(&self) -> Global {
+    pub fn alloc(&self) -> Global {
         self.rt.alloc()
     }
 
@@ -54,7 +54,7 @@ impl System<'_> {
     ///
     /// # Errors
     /// Those of `read_map`.
-    pub(crate) fn read_map(&self, path: Option<&str>) -> Result<(Map, Option<String>), NoMap>
+    pub fn read_map(&self, path: Option<&str>) -> Result<(Map, Option<String>), NoMap>
         ensures map { IfOk result
             (λ p. IsMapOf STANDARD.now (option_map (λ p. p.now) path.entry)
             (said.text_said STANDARD.now p.1) p.0) }
@@ -67,7 +67,7 @@ impl System<'_> {
     /// Opens the store of a file, which is made, empty, where there is none.
     ///
     /// # Errors
-    /// Want of memory; or the disk, also for a file that isn't a database or that another program has open.
+    /// Those of `open_new`.
     fn open_file<S: Start>(&self, start: S, path: &str) -> Result<Stored<S>, StoreFault>
         ensures fault { IfErr result IsOpenFault }
         ensures opened { IfOk result (λ c. HasCleanDisk (file_state c) → IsOpened c) }
@@ -114,8 +114,8 @@ impl System<'_> {
     /// Opens the store of a file, which is made where there is none: empty, and for its owner alone. The log beside it gets its rights.
     ///
     /// # Errors
-    /// Those of `open_file`.
-    pub(crate) fn open_new<S: Start>(&self, start: S, path: &str) -> Result<Stored<S>, StoreFault>
+    /// Want of memory; or the disk, also for a file that isn't a database or that another program has open.
+    pub fn open_new<S: Start>(&self, start: S, path: &str) -> Result<Stored<S>, StoreFault>
         ensures fault { IfErr result IsOpenFault }
         ensures opened { IfOk result (λ c. HasCleanDisk (file_state c) → IsOpened c) }
         ensures found { IfOk result
@@ -128,12 +128,8 @@ impl System<'_> {
     /// Opens the store of a file that is there.
     ///
     /// # Errors
-    /// Where there is no file, that it has no desk's tables, and none is made; else those of `open_file`.
-    pub(crate) fn open_present<S: Start>(
-        &self,
-        start: S,
-        path: &str,
-    ) -> Result<Stored<S>, StoreFault>
+    /// Where there is no file, that it has no desk's tables, and none is made; else those of `open_new`.
+    pub fn open_present<S: Start>(&self, start: S, path: &str) -> Result<Stored<S>, StoreFault>
         ensures fault { IfErr result IsFindFault }
         ensures opened { IfOk result (λ c. HasCleanDisk (file_state c) → IsOpened c) }
         ensures found { IfOk result
@@ -150,7 +146,7 @@ impl System<'_> {
     ///
     /// # Errors
     /// The system's, as where the port is taken.
-    pub(crate) fn listen_on(&self, port: u16) -> io::Result<TcpListener> {
+    pub fn listen_on(&self, port: u16) -> io::Result<TcpListener> {
         let address = SocketAddr::from(([127, 0, 0, 1], port));
         let listener = TcpListener::from(net::TcpListener::bind(self.rt, address)?);
         listener.set_nonblocking(false)?;

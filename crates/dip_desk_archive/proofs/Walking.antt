@@ -1,9 +1,9 @@
 -- A walk from look to look.
 use Rattle.std.proofs.Common.{◌≡◌, ◌<◌, ◌⊎◌, inl, inr, IfOk, List, None, Ok, OnErr, Option, Err, Result, length, refl, subst, sym, ap, arith, ◌∙◌, ℕ}
 use Rattle.std.proofs.lemmas.Result.{on_err_weaker}
-use Rattle.dip_store.specs.Papers.{AreBegun, BreaksOff, Walks, WritesPapers, faults_told, papers_of}
-use Rattle.dip_store.specs.declared.paper_faults.PaperFault.{PaperFault}
-use Rattle.dip_store.specs.declared.paper_faults.PaperFault.TheVariants.{Write, Keep}
+use Rattle.dip_desk_archive.specs.Papers.{AreBegun, BreaksOff, Walks, WritesPapers, faults_told, papers_of}
+use Rattle.dip_desk_archive.specs.declared.paper_faults.PaperFault.{PaperFault}
+use Rattle.dip_desk_archive.specs.declared.paper_faults.PaperFault.TheVariants.{Write, Keep}
 use Rattle.dip_map.specs.Charts.{Chart}
 use Rattle.dip_desk_keeper.specs.Keeping.{Book, Ends, IsOpen, Looks, WasTold}
 use Rattle.dip_desk_state.specs.Bounds.{most_papers}

@@ -45,8 +45,8 @@ pub enum Failure {
 }
 
 impl Failure {
-    /// The exit status that is told of it: 1 where the answer is no, 2 for the arguments, 3 for the map, 4 for the store, its keeper and a game
-    /// that isn't there, 5 for a map's file, the port, input, output or other want of memory.
+    /// The exit status: 1 where the answer is no, 2 for the arguments, 3 for the map, 4 for the store, its keeper and a game that isn't there, 5 for a map's
+    /// file, the port, input, output or other want of memory.
     pub fn status(&self) -> u8
         ensures status { result ≡ status_of self.now }
         ensures most { result ≤ 5 }

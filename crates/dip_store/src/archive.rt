@@ -12,7 +12,7 @@ impl<S: Alter> SqlKeeper<S> {
     /// Writes all papers of a game, as the function of that name does over any keeper.
     ///
     /// # Errors
-    /// The same.
+    /// Those of that function.
     pub fn write_papers<W: Write>(
         &mut self,
         map: &Map,

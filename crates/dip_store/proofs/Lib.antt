@@ -12,3 +12,6 @@ pub mod Opened
 pub mod Outside
 pub mod Recalled
 pub mod Renewal
+pub mod Counted
+pub mod Wanting
+pub mod Transaction

@@ -31,8 +31,8 @@ use Rattle.dip_store_sql.specs.Rows.{tables_of}
 use Rattle.dip_store_sql.proofs.Parts.{fails, went}
 use Rattle.dip_store_counts.specs.Failing.{HasPlace}
 use Rattle.dip_store_sql.specs.RowFaults.{BlamesFor, FailsFor}
-use Rattle.dip_store_changes.specs.Laws.{ChangesAreMade, IsMade}
-use Rattle.dip_store_changes.specs.Making.{MakesFrom, MayMake}
+use Rattle.dip_store.specs.Laws.{ChangesAreMade, IsMade}
+use Rattle.dip_store.specs.Making.{MakesFrom, MayMake}
 use Rattle.dip_store_sql.specs.declared.row_faults.RowFault.{RowFault}
 use Rattle.dip_store.specs.Faults.{row_fault}
 use Rattle.dip_desk_state.specs.Writable.{IsAuthorOf}

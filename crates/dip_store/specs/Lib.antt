@@ -1,6 +1,7 @@
 pub mod Authors
 pub mod Laws
 pub mod Faults
+pub mod Making
 pub mod Opening
 pub mod Stored
 pub use Rattle.dip_store_schema.specs.Renewing

@@ -4,13 +4,13 @@ ghost use Rattle.dip_store.specs.Stored as stored;
 
 use crate::authors::known_author;
 use crate::faults::row_fault;
-use crate::fitting_laws::{what_fits_can_be_written, what_fits_finds_place};
+use crate::laws::{changes_are_made, what_fits_can_be_written, what_fits_finds_place};
+use crate::making::make;
 use crate::papers::look_game_paper;
 use crate::shared::look_shared_public;
 use dip_desk_keeper::Keeper;
 use dip_desk_state::{Change, Desk, Item, KeepFault, Own, Public, Whole};
 use dip_map::{Map, Power};
-use dip_store_changes::{changes_are_made, make};
 use dip_store_counts::KnownBefore;
 use dip_store_looks::{look_desk, look_digest, look_items, look_own, look_whole};
 use dip_store_memory::{IdleSeats, SeenGames, SeenOwns};

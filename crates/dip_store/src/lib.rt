@@ -4,11 +4,13 @@
 mod archive;
 mod authors;
 mod faults;
-mod fitting_laws;
 mod keeper;
+mod laws;
+mod making;
 mod opening;
 mod papers;
 mod shared;
+mod whole;
 
 pub use dip_store_schema::StoreFault;
 pub use keeper::SqlKeeper;

@@ -1,5 +1,3 @@
-pub mod Counted
 pub mod Gaming
 pub mod Handing
-pub mod Made
-pub mod Wanting
+pub mod Orders

@@ -1,6 +1,5 @@
 pub mod Delivering
 pub mod Games
-pub mod Laws
-pub mod Making
+pub mod Parts
 pub use Rattle.dip_names.specs.declared.names.Kind
 pub use Rattle.dip_names.specs.declared.names.Unit

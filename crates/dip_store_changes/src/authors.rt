@@ -3,11 +3,10 @@ ghost use Rattle.std.specs.Prelude.{◌≡◌, IfOk, codes, string_bytes};
 ghost use Rattle.sqlite.specs.Held.{state};
 ghost use Rattle.dip_desk_state.specs.ChangeRows as machine;
 ghost use Rattle.dip_desk_state.specs.Rows as records;
-ghost use Rattle.dip_map.specs.Charts.{Chart};
 ghost use Rattle.dip_store_tables.specs.Writing.{as_printed, desk_noted, whole_reply};
 ghost use Rattle.dip_store_sql.specs.TablesAfter.{on_desk, on_seat};
 ghost use Rattle.dip_store_sql.specs.Transactions.{Does, always};
-ghost use Rattle.dip_store_counts.specs.Noting.{NextRowsAreNoted, noting_row, on_row, row_noted};
+ghost use Rattle.dip_store_counts.specs.Noting.{noting_row, on_row, row_noted};
 
 use dip_desk_state::{Author, Change, Head, Kept, Outcome, Reply, reply_text};
 use dip_map::Map;
@@ -133,8 +132,3 @@ pub fn note_author<S: Alter>(
         }
     }
 }
-
-/// Where its other columns are those of the author's row after its letter, this is what noting makes of the tables.
-pub fn next_rows_are_noted()
-    ensures { (m : Chart) → NextRowsAreNoted m }
-{}

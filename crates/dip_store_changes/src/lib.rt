@@ -1,15 +1,10 @@
-//! A change as one transaction, made whole or not at all.
+//! The parts of a change, one after the other in a transaction.
 #![tactic(auto)]
 
 mod authors;
 mod delivering;
 mod games;
-mod laws;
-mod making;
 mod parts;
-mod whole;
 
-pub use authors::next_rows_are_noted;
-pub use laws::changes_are_made;
-pub use making::make;
-pub use whole::make_with;
+pub use delivering::readers_are_seats;
+pub use parts::make_parts;

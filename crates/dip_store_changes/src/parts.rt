@@ -9,7 +9,7 @@ ghost use Rattle.dip_store_tables.specs.Coding.{IsEffectOf};
 ghost use Rattle.dip_store_tables.specs.ChangeColumns.{FitsColumns, IsWritable};
 ghost use Rattle.dip_store_sql.specs.Keys.{AreKeyed, OrdersDiffer};
 ghost use Rattle.dip_store_sql.specs.Transactions.{Does, always};
-ghost use Rattle.dip_store_changes.specs.Making.{GivenOrdersDiffer, changing_row, ordering_by_over, ordering_over, reaching_all};
+ghost use Rattle.dip_store_changes.specs.Parts.{GivenOrdersDiffer, changing_row, ordering_by_over, ordering_over, reaching_all};
 
 use crate::authors::note_author;
 use crate::delivering::deliver;
@@ -134,7 +134,7 @@ fn reach<S: Alter>(
 
 /// All parts of a change: what is kept of its letter, its author's orders or vote, and what it does to its game. It may be known that no
 /// order of the author stood.
-pub(crate) fn make_parts<S: Alter>(
+pub fn make_parts<S: Alter>(
     alloc: Global,
     tx: &mut Transaction<'_, S>,
     map: &Map,

@@ -3,7 +3,7 @@ use Rattle.dip_desk_state.specs.ChangeRows as machine
 use Rattle.dip_desk_state.specs.Rows as rows
 use Rattle.dip_desk_state.specs.declared.records.Own.{Own}
 use Rattle.dip_store_tables.specs.ChangeColumns.{IsWritable}
-use Rattle.dip_store_changes.proofs.Made.{makes_when}
+use Rattle.dip_store.proofs.Transaction.{makes_when}
 use Rattle.dip_store_memory.specs.Owns.{owns_of}
 use Rattle.dip_store.specs.Authors.{known_among}
 use Rattle.dip_store.proofs.Made.{changes_well, changes_ill, changes_none, knows}

@@ -1,5 +1,5 @@
 //! A change with all that is counted before it.
-ghost use Rattle.std.specs.Prelude.{◌≡◌, ◌⊎◌, IfErr, OnErr, OnOk};
+ghost use Rattle.std.specs.Prelude.{◌⊎◌, IfErr, OnErr, OnOk};
 ghost use Rattle.sqlite.specs.Held.{state};
 ghost use Rattle.sqlite.specs.Tree.{Trees};
 ghost use Rattle.dip_desk_state.specs.ChangeRows as machine;
@@ -9,14 +9,14 @@ ghost use Rattle.dip_store_tables.specs.Legible.{AreOurs};
 ghost use Rattle.dip_store_sql.specs.Causes.{has_faulted};
 ghost use Rattle.dip_store_sql.specs.Calls.{IsKept, does_show, is_honest, tables_in};
 ghost use Rattle.dip_store_counts.specs.Failing.{HasPlace};
-ghost use Rattle.dip_store_changes.specs.Making.{MakesFrom, MayMake};
+ghost use Rattle.dip_store.specs.Making.{MakesFrom, MayMake};
 ghost use Rattle.dip_store_sql.specs.RowFaults.{BlamesFor, FailsFor};
 ghost use Rattle.dip_store_counts.specs.Knowing.{IsKeptFor};
 
-use crate::delivering::readers_are_seats;
 use crate::whole::make_with;
 use dip_desk_state::Change;
 use dip_map::Map;
+use dip_store_changes::readers_are_seats;
 use dip_store_counts::{KnownBefore, count, is_unordered, row_known};
 use dip_store_sql::RowFault;
 use dip_store_tables::{press_is_delivered_one_by_one, tables_stay_counted};
@@ -31,7 +31,7 @@ use std::alloc::Global;
 /// Want of memory, the database's own, one of a transaction that is open before, and `Misfit` where a count has no room for one more,
 /// the change's paper hasn't the next number of its game, a seat of the game is of no power of the map, or the author's digest hasn't 32
 /// bytes.
-pub fn make<S: Alter>(
+pub(crate) fn make<S: Alter>(
     conn: &mut Connection<S>,
     alloc: Global,
     map: &Map,

@@ -1,5 +1,5 @@
 -- A transaction of parts fails for want alone where each of its parts does.
-use Rattle.std.proofs.Common.{◌≡◌, ℕ, Bool, List, true, inl, inr, Ok, Err, Result, IsTrue, IfErr, refl, sym, ap, ◌∙◌, arith}
+use Rattle.std.proofs.Common.{◌≡◌, true, inl, inr, Ok, Err, Result, IsTrue, IfErr, refl, sym, ap, ◌∙◌, arith}
 use Rattle.dip_store_sql.specs.StoreError.{StoreError}
 use Rattle.dip_store_sql.specs.StoreError.TheVariants.{OutOfMemory, Io, Corrupt, Full, Broken, Unstorable}
 use Rattle.sqlite.specs.declared.error.Error.{Error}
@@ -8,20 +8,15 @@ use Rattle.sqlite.specs.Store.{Ghosts}
 use Rattle.sqlite.specs.Held.{Held, state}
 use Rattle.sqlite.specs.State.{State, HasCause, HasCleanDisk, Survives, is_disk_error, store_error}
 use Rattle.sqlite.specs.Steps.{FailsToCommit}
-use Rattle.dip_map.specs.Charts.{Chart}
-use Rattle.dip_desk_state.specs.State.{Author, Effect, Nothing, Pending, Votes, Delivers, Opens, Publishes, Seats}
 use Rattle.dip_store_tables.specs.Tables.{Tables}
 use Rattle.dip_store_sql.specs.Calls.{IsKept, does_show, is_honest, tables_in}
 use Rattle.dip_store_sql.specs.Causes.{Faulted, has_faulted}
 use Rattle.dip_store_sql.proofs.Blamed.{want_blamed}
 use Rattle.dip_store_sql.proofs.Caused.{faulted_late}
 use Rattle.dip_store_sql.proofs.Parts.{fails, went}
-use Rattle.dip_store_sql.specs.Keys.{AreKeyed}
 use Rattle.dip_store_sql.specs.Refusals.{IsBlamed, IsWant}
 use Rattle.dip_store_sql.specs.Transactions.{Does, IsReady}
 use Rattle.dip_store_sql.proofs.Told.{want_weaker}
-use Rattle.dip_store_counts.specs.declared.readers.Reader.{Reader}
-use Rattle.dip_store_changes.specs.Making.{GivenOrdersDiffer, ordering_over, reaching_all}
 
 -- an open store fails for want
 caused : (old new : State) (e : Error) (cause : StoreError) → e ≡ store_error cause → HasCause old new ⊥ cause → IsTrue old.is_open → IsWant (Faulted old new) e
@@ -61,13 +56,3 @@ module _ {S : Type 0} (g : Ghosts S) (f : Tables → Tables) (Keep : Tables → 
 pub want_blames : {Y : Type 0} (fault : Type 0) (r : Result Y Error) → IfErr r (IsWant fault) → IfErr r (IsBlamed fault)
 want_blames fault (Ok y) want = tt
 want_blames fault (Err e) want = want_blamed fault e want
-
--- after a change no key comes twice, so none does of its orders
-pub orders_keyed : (none : Bool) (rs : List Reader) (m : Chart) (who : Author) (name : List ℕ) (e : Effect) (t : Tables) → AreKeyed (reaching_all rs m name e (ordering_over none m who name e t)) → GivenOrdersDiffer e (ordering_over none m who name e t)
-orders_keyed none rs m who name Nothing t keyed = tt
-orders_keyed none rs m who name (Pending orders) t keyed = keyed.pending
-orders_keyed none rs m who name (Votes vote) t keyed = tt
-orders_keyed none rs m who name (Delivers readers item) t keyed = tt
-orders_keyed none rs m who name (Opens public paper seats) t keyed = tt
-orders_keyed none rs m who name (Publishes public paper played) t keyed = tt
-orders_keyed none rs m who name (Seats seat) t keyed = tt

@@ -5,7 +5,7 @@ use Rattle.dip_store_tables.specs.Reading.{state_of}
 use Rattle.dip_store_tables.specs.Written.{AreWritten}
 use Rattle.dip_store_sql.specs.Rows.{tables_of}
 use Rattle.dip_store_sql.proofs.Keyed.{are_apart}
-use Rattle.dip_store_changes.proofs.laws.changes_are_made.Goals as goal
+use Rattle.dip_store.proofs.laws.changes_are_made.Goals as goal
 
 pub returns : goal.returns
 returns g m ok c old new fits good later is =

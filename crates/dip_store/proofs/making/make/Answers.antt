@@ -18,15 +18,15 @@ use Rattle.dip_store_sql.specs.Keys.{AreKeyed}
 use Rattle.dip_store_counts.specs.declared.readers.Reader.{Reader}
 use Rattle.dip_store_counts.specs.Counts.{Counts}
 use Rattle.dip_store_counts.specs.Knowing.{IsKeptAs, IsKeptFor, IsKnown, IsKnownBefore, IsUnordered, is_unordered, row_known}
-use Rattle.dip_store_changes.specs.Making.{changing_row}
+use Rattle.dip_store_changes.specs.Parts.{changing_row}
 use Rattle.dip_store_counts.specs.declared.known.AuthorRow.{AuthorRow}
 use Rattle.dip_store_counts.specs.declared.known.KnownBefore.{KnownBefore}
 use Rattle.dip_store_sql.specs.declared.row_faults.RowFault.{RowFault}
-use Rattle.dip_store_changes.proofs.Counted.{counted_change}
+use Rattle.dip_store.proofs.Counted.{counted_change}
 use Rattle.dip_store_counts.specs.declared.counts.Counted.{Counted}
-use Rattle.dip_store_changes.proofs.Made.{laid_kept, makes_named, makes_peeked}
+use Rattle.dip_store.proofs.Transaction.{laid_kept, makes_named, makes_peeked}
 use Rattle.dip_store_counts.proofs.Peeking.{peeks_counts, peeks_kept, peeks_shows}
-use Rattle.dip_store_changes.proofs.making.make.Goals as goal
+use Rattle.dip_store.proofs.making.make.Goals as goal
 
 -- what `count` asks for, of what is known
 at_row : {S : Type 0} (g : Ghosts S) (known : KnownBefore) (row : Option AuthorRow) (m : Chart) (it : Change) (h : Held S) → row ≡ row_known known.author → IsKeptFor g known m it h → IsKeptAs g row known.papers m it h

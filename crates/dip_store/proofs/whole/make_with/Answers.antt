@@ -11,10 +11,11 @@ use Rattle.dip_store_sql.proofs.Told.{want_weaker}
 use Rattle.dip_store_sql.specs.Causes.{has_faulted}
 use Rattle.dip_store_sql.proofs.Caused.{faulted_early}
 use Rattle.dip_store_sql.specs.Refusals.{IsWant}
-use Rattle.dip_store_changes.specs.Making.{Makes, changing_row}
-use Rattle.dip_store_changes.proofs.Made.{makes_committed}
-use Rattle.dip_store_changes.proofs.Wanting.{commit_wants, parts_blame, parts_want, want_blames}
-use Rattle.dip_store_changes.proofs.whole.make_with.Goals as goal
+use Rattle.dip_store_changes.specs.Parts.{changing_row}
+use Rattle.dip_store.specs.Making.{Makes}
+use Rattle.dip_store.proofs.Transaction.{makes_committed}
+use Rattle.dip_store.proofs.Wanting.{commit_wants, parts_blame, parts_want, want_blames}
+use Rattle.dip_store.proofs.whole.make_with.Goals as goal
 
 pub returns : goal.returns
 returns g c =

@@ -16,7 +16,7 @@ use Rattle.dip_store_sql.specs.Causes.{has_faulted}
 use Rattle.dip_store_sql.proofs.Caused.{faulted_early, faulted_late}
 use Rattle.dip_store_sql.proofs.Parts.{failed_commit, fails, undone_all, undone_base, went}
 use Rattle.dip_store_counts.specs.Counts.{Peeks}
-use Rattle.dip_store_changes.specs.Making.{Makes, MakesFrom}
+use Rattle.dip_store.specs.Making.{Makes, MakesFrom}
 
 -- both went well, or neither
 abbrev pub AreAlike : {X E F : Type 0} → Result X E → Result X F → Type 0

@@ -7,18 +7,19 @@ ghost use Rattle.dip_store_sql.specs.Causes.{has_faulted};
 ghost use Rattle.dip_store_sql.specs.Calls.{IsKept, does_show, is_honest, tables_in};
 ghost use Rattle.dip_store_sql.specs.Keys.{AreKeyed};
 ghost use Rattle.dip_store_sql.specs.Refusals.{IsBlamed, IsWant};
-ghost use Rattle.dip_store_changes.specs.Making.{Makes, changing_row};
+ghost use Rattle.dip_store_changes.specs.Parts.{changing_row};
+ghost use Rattle.dip_store.specs.Making.{Makes};
 
-use crate::parts::make_parts;
 use dip_desk_state::Change;
 use dip_map::Map;
+use dip_store_changes::make_parts;
 use dip_store_counts::{AuthorRow, Reader};
 use sqlite::{Alter, Connection, Error};
 use std::alloc::Global;
 
 /// Makes the whole change or nothing of it. The author's row has these columns beside the letter, where the author has a
 /// seat, and it may be known that no order of it stood; where it is press, the readers have it.
-pub fn make_with<S: Alter>(
+pub(crate) fn make_with<S: Alter>(
     conn: &mut Connection<S>,
     alloc: Global,
     map: &Map,

@@ -7,7 +7,7 @@ use Rattle.dip_desk_state.specs.Records.{Public}
 use Rattle.dip_desk_state.specs.Rows as rows
 use Rattle.dip_desk_state.specs.declared.records.Public.{Public as Row}
 use Rattle.dip_orders_placed.specs.declared.placed.PlacedOrder.{PlacedOrder}
-use Rattle.dip_turn_report.specs.declared.report.Report.{Report}
+use Rattle.dip_turn_phases.specs.declared.report.Report.{Report}
 use Rattle.dip_check.specs.Phases.{IsComparedPhase, IsJudged, IsJudgedBy}
 use Rattle.dip_check_papers.specs.Checks.{IsToldOf}
 use Rattle.dip_check_papers.specs.Games.{IsPhase, IsPhaseOf}

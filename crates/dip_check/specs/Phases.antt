@@ -6,7 +6,7 @@ use Rattle.dip_desk_state.specs.Records.{Public}
 use Rattle.dip_desk_state.specs.Rows as rows
 use Rattle.dip_desk_state.specs.declared.records.Public.{Public as Row}
 use Rattle.dip_orders_placed.specs.declared.placed.PlacedOrder.{PlacedOrder}
-use Rattle.dip_turn_report.specs.declared.report.Report.{Report}
+use Rattle.dip_turn_phases.specs.declared.report.Report.{Report}
 use Rattle.dip_check_papers.specs.Checks.{IsToldOf, IsToldOfPhase}
 use Rattle.dip_check_papers.specs.Differing.{first_other}
 use Rattle.dip_check_papers.specs.Games.{IsNext, IsPhase, IsPhaseOf}

@@ -22,11 +22,11 @@ use Rattle.dip_reports.specs.Texts.{board_lines, game_line}
 use Rattle.dip_turn.specs.Centres.{centre_lines}
 use Rattle.dip_turn.specs.Phases.{Sequel, follow}
 use Rattle.dip_turn.specs.Reports.{Leaves, LeavesMoved}
-use Rattle.dip_turn_report.specs.declared.report.Account.{Account}
-use Rattle.dip_turn_report.specs.declared.report.Account.TheVariants.{Movement as OfMovement, Retreats as OfRetreats, Adjustment as OfAdjustment}
+use Rattle.dip_turn_phases.specs.declared.report.Account.{Account}
+use Rattle.dip_turn_phases.specs.declared.report.Account.TheVariants.{Movement as OfMovement, Retreats as OfRetreats, Adjustment as OfAdjustment}
 use Rattle.dip_turn.specs.CentreLine.{CentreLine}
-use Rattle.dip_turn_report.specs.declared.report.Movement.{Movement}
-use Rattle.dip_turn_report.specs.declared.report.Report.{Report}
+use Rattle.dip_turn_phases.specs.declared.report.Movement.{Movement}
+use Rattle.dip_turn_phases.specs.declared.report.Report.{Report}
 use Rattle.dip_desk_machine.specs.Published.{AreDecided, movement_paper}
 use Rattle.dip_check_papers.specs.Games.{IsPhaseOf}
 use Rattle.dip_check_laws.specs.Published.{IsDecidedFor, MovementsAreDecided}

@@ -8,7 +8,7 @@ use Rattle.dip_desk_state.specs.State.{Game, State, game_at, name_of}
 use Rattle.dip_desk_machine.specs.Lawful.{IsLawful, StaysLawful}
 use Rattle.dip_desk_machine.proofs.ListLemmas.{all_at}
 use Rattle.dip_desk_machine.proofs.RunLemmas.{StepsKeep}
-use Rattle.dip_desk_archive.specs.Papers.{papers_text}
+use Rattle.dip_desk_keeper.specs.Papers.{papers_text}
 use Rattle.dip_http.specs.Serving.{TakesOne}
 use Rattle.dip_http.proofs.KeptLemmas.{one_keeps, served_keep}
 use Rattle.dip_judge_runs.specs.Fresh.{fresh_desk}

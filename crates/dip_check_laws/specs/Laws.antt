@@ -3,7 +3,7 @@ use Rattle.std.specs.Prelude.{◌≡◌, ◌≤◌, ◌⊎◌, ℕ, Bool, true, 
 use Rattle.dip_map.specs.Charts.{Chart}
 use Rattle.dip_desk_state.specs.State.{Game, State, game_at}
 use Rattle.dip_desk_machine.specs.Lawful.{IsLawful}
-use Rattle.dip_desk_archive.specs.Papers.{papers_text}
+use Rattle.dip_desk_keeper.specs.Papers.{papers_text}
 use Rattle.dip_http.specs.Serving.{Serves, TakesOne}
 use Rattle.dip_judge_runs.specs.Fresh.{fresh_desk}
 use Rattle.dip_judge_runs.specs.Runs.{AnswersAll, Stops, TakesNext}

@@ -15,7 +15,7 @@ use Rattle.dip_desk_state.specs.Records.{Public}
 use Rattle.dip_reports.specs.Texts.{board_line, board_lines, by_province, centres, force_text, forces, game_line, intent_text, joined, listing, phase_text, terms_text, yes_or_no}
 use Rattle.dip_desk_state.specs.Texts.{status_text}
 use Rattle.dip_reports.specs.declared.board_lines.Force.{Force}
-use Rattle.dip_turn_report.specs.declared.report.Report.{Report}
+use Rattle.dip_turn_phases.specs.declared.report.Report.{Report}
 use Rattle.dip_turn_papers.specs.Papers.{account_text, centre_line, paper_text, title}
 use Rattle.dip_check_papers.proofs.LineLemmas.{AreAll, all_both, all_flat, lacks_by}
 use Rattle.dip_check_papers.proofs.NameTexts.{code_all, name_all, number_all}

@@ -17,7 +17,7 @@ use Rattle.dip_turn.specs.Outcomes.{lines_on}
 use Rattle.dip_turn.specs.Reports.{IsMoved}
 use Rattle.dip_turn_papers.specs.Papers.{moved_lines}
 use Rattle.dip_turn_papers.specs.declared.lines.PaperLine.{PaperLine}
-use Rattle.dip_turn_report.specs.declared.report.Movement.{Movement}
+use Rattle.dip_turn_phases.specs.declared.report.Movement.{Movement}
 use Rattle.dip_desk_games.specs.ByPlace.{are_by_place, comes_before}
 use Rattle.dip_check_papers.specs.Placing.{placed_by}
 use Rattle.dip_check_papers.proofs.Listed.{apart}

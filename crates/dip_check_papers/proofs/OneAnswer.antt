@@ -16,7 +16,7 @@ use Rattle.dip_turn.specs.Laws.{IsSame, PhasesHaveOneResult}
 use Rattle.dip_turn.specs.Reports.{IsPlayed}
 use Rattle.dip_turn.specs.Course.{Course}
 use Rattle.dip_turn.specs.Course.TheVariants.{GoesOn, Won as WonBy, Ended as AtAnEnd}
-use Rattle.dip_turn_report.specs.declared.report.Report.{Report}
+use Rattle.dip_turn_phases.specs.declared.report.Report.{Report}
 use Rattle.dip_turn_papers.specs.Papers.{paper_text}
 use Rattle.dip_desk_state.specs.Bounds.{most_papers}
 use Rattle.dip_desk_state.specs.Records.{Public, Status, Running, Paused, Closed, Ended, Won, Drawn}

@@ -35,10 +35,10 @@ use Rattle.dip_turn.specs.Fate.{Fate}
 use Rattle.dip_turn.specs.Fate.TheVariants.{Stands, Dislodged, Destroyed}
 use Rattle.dip_turn.specs.Outcome.{Outcome}
 use Rattle.dip_turn.specs.Outcome.TheVariants.{Holds, Moves, Bounced, NoRoute, Given, Cut, Void, Convoys}
-use Rattle.dip_turn_report.specs.declared.report.Account.{Account}
-use Rattle.dip_turn_report.specs.declared.report.Account.TheVariants.{Movement as OfMovement, Retreats as OfRetreats, Adjustment as OfAdjustment}
+use Rattle.dip_turn_phases.specs.declared.report.Account.{Account}
+use Rattle.dip_turn_phases.specs.declared.report.Account.TheVariants.{Movement as OfMovement, Retreats as OfRetreats, Adjustment as OfAdjustment}
 use Rattle.dip_turn.specs.CentreLine.{CentreLine}
-use Rattle.dip_turn_report.specs.declared.report.Report.{Report}
+use Rattle.dip_turn_phases.specs.declared.report.Report.{Report}
 use Rattle.dip_turn.specs.Waiver.{Waiver}
 use Rattle.dip_turn_papers.specs.Papers as t
 use Rattle.dip_turn_papers.specs.declared.lines.PaperLine.{PaperLine}

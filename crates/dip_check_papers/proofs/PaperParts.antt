@@ -15,7 +15,7 @@ use Rattle.dip_map.specs.declared.boards.Season.TheVariants.{SpringMoves, Spring
 use Rattle.dip_orders_placed.specs.declared.placed.PlacedOrder.{PlacedOrder}
 use Rattle.dip_desk_state.specs.Records.{Public}
 use Rattle.dip_reports.specs.Texts.{board_lines, game_line, phase_text}
-use Rattle.dip_turn_report.specs.declared.report.Report.{Report}
+use Rattle.dip_turn_phases.specs.declared.report.Report.{Report}
 use Rattle.dip_turn_papers.specs.Papers.{account_text, by_province, centre_line, is_in, line_text, lines_by_power, paper_text}
 use Rattle.dip_turn_papers.specs.declared.lines.PaperLine.{PaperLine}
 use Rattle.dip_check_papers.specs.Placing.{placed_by, units_by_place}

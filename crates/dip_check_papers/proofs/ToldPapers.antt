@@ -14,7 +14,7 @@ use Rattle.dip_turn.specs.Laws.{PhasesHaveOneResult}
 use Rattle.dip_turn.specs.Reports.{IsPlayed}
 use Rattle.dip_turn.specs.Course.{Course}
 use Rattle.dip_turn.specs.Course.TheVariants.{GoesOn, Won, Ended}
-use Rattle.dip_turn_report.specs.declared.report.Report.{Report}
+use Rattle.dip_turn_phases.specs.declared.report.Report.{Report}
 use Rattle.dip_turn_papers.specs.Papers.{paper_text}
 use Rattle.dip_desk_games.specs.Ticking.{due_after, public_played}
 use Rattle.dip_desk_state.specs.Records.{Public}

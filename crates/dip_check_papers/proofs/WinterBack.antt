@@ -26,7 +26,7 @@ use Rattle.dip_orders_placed.specs.declared.placed.Order.{Order}
 use Rattle.dip_orders_placed.specs.declared.placed.Order.TheVariants.{Hold, Move, SupportHold, SupportMove, Convoy, Retreat, Disband, Build, Remove}
 use Rattle.dip_orders_placed.specs.declared.placed.PlacedOrder.{PlacedOrder}
 use Rattle.dip_turn.specs.Reports.{IsAdjusted}
-use Rattle.dip_turn_report.specs.declared.report.Adjustment.{Adjustment}
+use Rattle.dip_turn_phases.specs.declared.report.Adjustment.{Adjustment}
 use Rattle.dip_turn.specs.Waiver.{Waiver}
 use Rattle.dip_turn.proofs.CountLemmas.{count_append, count_kept}
 use Rattle.dip_turn.proofs.MapLemmas.{AreEachLawful, each_lawful}

@@ -19,7 +19,7 @@ use Rattle.dip_orders.specs.Reading.{order_of}
 use Rattle.dip_orders_placed.specs.Standing.{is_same_unit}
 use Rattle.dip_orders_placed.specs.declared.placed.PlacedOrder.{PlacedOrder}
 use Rattle.dip_turn.specs.Reports.{IsPlayed}
-use Rattle.dip_turn_report.specs.declared.report.Report.{Report}
+use Rattle.dip_turn_phases.specs.declared.report.Report.{Report}
 use Rattle.dip_desk_games.specs.ByPlace.{are_by_place}
 use Rattle.dip_check_papers.specs.Placing.{units_by_place}
 use Rattle.dip_check_papers.specs.declared.printed.Printed.{Printed}

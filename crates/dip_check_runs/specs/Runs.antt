@@ -8,7 +8,7 @@ use Rattle.dip_map.specs.Charts.{Chart}
 use Rattle.dip_desk_state.specs.Records.{Public}
 use Rattle.dip_desk_state.specs.declared.records.Public.{Public as Row}
 use Rattle.dip_desk_state.specs.Rows as rows
-use Rattle.dip_turn_report.specs.declared.report.Report.{Report}
+use Rattle.dip_turn_phases.specs.declared.report.Report.{Report}
 use Rattle.dip_check_papers.specs.Games.{AreOfGame, IsNext, IsOpening, IsPhaseOf}
 use Rattle.dip_check_papers.specs.PaperTexts.{HasNoEnd}
 use Rattle.dip_explain.specs.Phases.{phase_explained}

@@ -15,8 +15,8 @@ ghost use Rattle.dip_decide_rules.specs.Marks.{with_all, with_broken};
 
 use crate::starting::values_at_start;
 use crate::turns::explain;
-use dip_decide_orders::table_on;
 use dip_decide_rules::{Resolution, Step, Tests, Values, all_false, value_at};
+use dip_decide_table::table_on;
 use dip_map::{Board, Map};
 use dip_names::Prov;
 use dip_orders_placed::Orders;

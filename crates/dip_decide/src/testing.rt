@@ -7,8 +7,8 @@ ghost use Rattle.dip_decide_rules.specs.Meaning.{situation_on};
 ghost use Rattle.dip_decide_rules.specs.Movement.{at_first, rule};
 
 use crate::starting::values_at_start;
-use dip_decide_orders::table_on;
 use dip_decide_rules::{Decision, Room, Table, Tests, Values, forced_on};
+use dip_decide_table::table_on;
 use dip_map::{Board, Map};
 use dip_orders_placed::{Orders, PlacedOrder};
 use std::alloc::{AllocError, Global};

@@ -6,3 +6,4 @@ pub mod Looks
 pub mod Among
 pub mod Columns
 pub mod Meanings
+pub mod Sorted

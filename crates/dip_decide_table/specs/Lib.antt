@@ -5,3 +5,4 @@ pub mod Matching
 pub mod Meaning
 pub mod Placed
 pub mod Rows
+pub mod Columns

@@ -6,7 +6,7 @@ ghost use Rattle.dip_desk_state.specs.Rows as rows;
 
 use dip_desk_state::{Public, Status};
 use dip_map::Board;
-use dip_turn_report::Course;
+use dip_turn_phases::Course;
 use std::alloc::{AllocError, Global};
 use std::rc::Rc;
 

@@ -7,7 +7,7 @@ use Rattle.dip_map.specs.Charts.{Chart, powers}
 use Rattle.dip_desk_games.specs.Drawing.{agreed, asked, drawn_between, first_asked, is_set, survives, survivors, vote_of, where_agreed}
 use Rattle.dip_desk_machine.specs.Draws.{AsksFor, Draws, DrawsAreAgreed, IsAgreedOn, IsSurvivor}
 use Rattle.dip_desk_machine.specs.Machine.{OnTime}
-use Rattle.dip_desk_players.specs.Pressing.{is_among}
+use Rattle.dip_desk_machine.specs.Pressing.{is_among}
 use Rattle.dip_desk_games.specs.Ticking.{status_after}
 use Rattle.dip_turn.specs.Course.{Course}
 use Rattle.dip_turn.specs.Course.TheVariants.{GoesOn, Won as WonBy, Ended as AtAnEnd}

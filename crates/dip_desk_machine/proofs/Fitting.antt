@@ -27,7 +27,7 @@ use Rattle.dip_desk_state.specs.Fitting.{AreAscending, FitsMap}
 use Rattle.dip_desk_machine.specs.Machine.{IsOffMap, IsPublished, IsSpoiledIn, Verdict, NotKnown, Again, OutOfTurn, Taken, page_shown, seat_command, seen_in, verdict_by, verdict_on}
 use Rattle.dip_desk_machine.specs.Mail.{IsMail, Mail}
 use Rattle.dip_desk_games.specs.Ordering.{Ordered, after_line, after_lines, kept_orders, orders_after, orders_that_stand, outcome_of_lines, prov_of, standing_with}
-use Rattle.dip_desk_players.specs.Pressing.{readers_of}
+use Rattle.dip_desk_machine.specs.Pressing.{readers_of}
 use Rattle.dip_desk_state.specs.State.{Effect, Game, Nobody, Nothing, Part, Pending, Votes, Delivers, Opens, Publishes, Seats, Seat, TheMaster, game_at, seat_at, whole_of}
 use Rattle.dip_desk_games.specs.Ticking.{IsPlayable, orders_of, public_played}
 use Rattle.dip_desk_state.specs.Writable.{IsPublicOf}

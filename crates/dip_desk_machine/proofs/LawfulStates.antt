@@ -22,7 +22,7 @@ use Rattle.dip_desk_machine.specs.Lawful.{AreNamedApart, AreStanding, IsLawful, 
 use Rattle.dip_desk_machine.specs.Machine.{Decides, DecidesIn, change_of, Verdict, MasterDecides, NumberedBy, NotKnown, Again, OutOfTurn, Taken, after, author, creation, digest, kept_of, new_seat, new_seats, old_number, with_more, opening_public, page_shown, seat_command, seat_verdict, seen_in, verdict_by, verdict_on}
 use Rattle.dip_desk_state.specs.Fitting.{are_complete}
 use Rattle.dip_desk_machine.specs.Mail.{IsMail, Mail}
-use Rattle.dip_desk_players.specs.Pressing.{is_among}
+use Rattle.dip_desk_machine.specs.Pressing.{is_among}
 use Rattle.dip_desk_state.specs.State.{State, Game, Part, Author, Nobody, TheMaster, Seat, Change, Effect, Nothing, Pending, Votes, Delivers, Opens, Publishes, Seats, NewSeat, after_paper, desk_after, fresh, game_after, game_at, name_of, new_games, opening_game, papers_after, power_in, public_after, seat_at, whole_of, with_author, with_digest, with_effect, with_item, with_letter}
 use Rattle.dip_desk_state.specs.Writable.{IsPublicOf, IsStatusOf, IsVoteOf}
 use Rattle.dip_desk_games.specs.Ticking.{orders_of, public_played, status_after}
@@ -31,7 +31,7 @@ use Rattle.dip_orders.specs.Given.{AreGiven}
 use Rattle.dip_orders_placed.specs.declared.placed.PlacedOrder.{PlacedOrder}
 use Rattle.dip_turn.specs.Laws.{WinnersOwnMore}
 use Rattle.dip_turn.specs.Reports.{IsPlayed}
-use Rattle.dip_turn_report.specs.declared.report.Report.{Report}
+use Rattle.dip_turn_phases.specs.declared.report.Report.{Report}
 use Rattle.dip_desk_state.proofs.KeyedLemmas.{at-append, names_tell, powers_tell}
 use Rattle.dip_desk_machine.proofs.LawfulOrders.{AreRead, ordered_standing}
 use Rattle.dip_desk_games.proofs.ListLemmas.{all_weaker}

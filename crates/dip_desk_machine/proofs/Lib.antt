@@ -1,3 +1,6 @@
+pub mod OrderingLemmas
+pub mod PressLemmas
+pub mod SeatLemmas
 pub mod Counting
 pub mod WritableLemmas
 pub mod VotingLemmas

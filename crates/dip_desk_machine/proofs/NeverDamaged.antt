@@ -14,7 +14,7 @@ use Rattle.dip_desk_state.specs.Keyed.{at}
 use Rattle.dip_desk_machine.specs.Lawful.{IsLawful, IsLawfulGame, IsLawfulSeat, IsNeverDamaged, last_number, sent_by_others}
 use Rattle.dip_desk_machine.specs.Machine.{Decides, IsForeignTo, IsFull, IsOffMap, IsSpoiled, IsSpoiledIn, Verdict, NumberedBy, NotKnown, Taken, old_number, seen_in, verdict_by, verdict_on}
 use Rattle.dip_desk_machine.specs.Mail.{IsMail, Mail}
-use Rattle.dip_desk_players.specs.Pressing.{is_among}
+use Rattle.dip_desk_machine.specs.Pressing.{is_among}
 use Rattle.dip_desk_state.specs.State.{State, Game, Part, Nobody, TheMaster, Seat, Nothing, Delivers, game_at, has_room, have_room, may_get, may_send, name_of, own_of, power_in, seat_at, whole_of}
 use Rattle.dip_desk_state.specs.Writable.{IsPublicOf}
 use Rattle.dip_desk_games.specs.Ordering.{has_foreign}

@@ -14,11 +14,11 @@ use Rattle.dip_turn_papers.specs.declared.lines.Told.TheVariants.{Built, Removed
 use Rattle.dip_desk_state.specs.Records.{Kept, Public, Whole}
 use Rattle.dip_reports.specs.Texts.{board_lines, game_line, paper_line}
 use Rattle.dip_turn.specs.Laws.{AreAlike, IsSame, PhasesHaveOneResult}
-use Rattle.dip_turn_report.specs.declared.report.Account.{Account}
-use Rattle.dip_turn_report.specs.declared.report.Account.TheVariants.{Movement as OfMovement, Retreats as OfRetreats, Adjustment as OfAdjustment}
+use Rattle.dip_turn_phases.specs.declared.report.Account.{Account}
+use Rattle.dip_turn_phases.specs.declared.report.Account.TheVariants.{Movement as OfMovement, Retreats as OfRetreats, Adjustment as OfAdjustment}
 use Rattle.dip_turn.specs.CentreLine.{CentreLine}
 use Rattle.dip_turn.specs.Course.{Course}
-use Rattle.dip_turn_report.specs.declared.report.Report.{Report}
+use Rattle.dip_turn_phases.specs.declared.report.Report.{Report}
 use Rattle.dip_turn.specs.RetreatLine.{RetreatLine}
 use Rattle.dip_turn.specs.Waiver.{Waiver}
 use Rattle.dip_desk_games.specs.Drawing.{drawn_between}

@@ -20,11 +20,11 @@ use Rattle.dip_reports.specs.Texts.{board_lines, game_line}
 use Rattle.dip_turn.specs.Centres.{centre_lines}
 use Rattle.dip_turn.specs.Phases.{Sequel, follow}
 use Rattle.dip_turn.specs.Reports.{Leaves, LeavesMoved}
-use Rattle.dip_turn_report.specs.declared.report.Account.{Account}
-use Rattle.dip_turn_report.specs.declared.report.Account.TheVariants.{Movement as OfMovement, Retreats as OfRetreats, Adjustment as OfAdjustment}
+use Rattle.dip_turn_phases.specs.declared.report.Account.{Account}
+use Rattle.dip_turn_phases.specs.declared.report.Account.TheVariants.{Movement as OfMovement, Retreats as OfRetreats, Adjustment as OfAdjustment}
 use Rattle.dip_turn.specs.CentreLine.{CentreLine}
-use Rattle.dip_turn_report.specs.declared.report.Movement.{Movement}
-use Rattle.dip_turn_report.specs.declared.report.Report.{Report}
+use Rattle.dip_turn_phases.specs.declared.report.Movement.{Movement}
+use Rattle.dip_turn_phases.specs.declared.report.Report.{Report}
 use Rattle.dip_desk_machine.specs.Mail.{Mail}
 use Rattle.dip_desk_machine.specs.Machine.{Decides, IsPublished, NotKnown, Taken, Verdict}
 use Rattle.dip_orders.specs.Conditions.{is_movement}

@@ -15,14 +15,14 @@ use Rattle.dip_desk_machine.proofs.Titles.{draw_told, notice_told}
 use Rattle.dip_desk_machine.specs.Titles.{names_phase}
 use Rattle.dip_desk_machine.specs.Mail.{Mail}
 use Rattle.dip_desk_games.specs.Noting.{is_announcement, public_noted}
-use Rattle.dip_desk_players.specs.Pressing.{are_distinct, is_among, is_to_all, item_of, may_read, named_powers, names_all, other_powers, readers_of, readers_where}
+use Rattle.dip_desk_machine.specs.Pressing.{are_distinct, is_among, is_to_all, item_of, may_read, named_powers, names_all, other_powers, readers_of, readers_where}
 use Rattle.dip_desk_state.specs.Bounds.{most_papers, most_sent}
 use Rattle.dip_desk_state.specs.State.{State, Game, Author, Nobody, TheMaster, Seat, Effect, Nothing, Part, Pending, Votes, Delivers, Opens, Publishes, Seats, NewSeat, game_at, power_in, seat_at, whole_of}
 use Rattle.dip_desk_machine.specs.Machine.{Decides, DecidesIn, IsPublished, IsSpoiled, MasterDecides, NumberedBy, OnTime, Ticks, Verdict, NotKnown, Again, OutOfTurn, Taken, addressed, creation, digest, draw_verdict, has_seat, new_seat, new_seats, notified, old_number, open_game, opening_public, orders_effect, orders_verdict, page_shown, press_to, refusal_verdict, replaced, replacement, seat_command, seen_in, unless, verdict_by, verdict_on, vote_verdict}
 use Rattle.dip_desk_state.specs.Fitting.{are_complete}
 use Rattle.dip_desk_games.specs.Ordering.{Ordered, kept_orders, outcome_of_lines, same_standings}
 use Rattle.dip_desk_games.specs.Ticking.{is_due, is_over}
-use Rattle.dip_desk_players.specs.Voting.{plain_vote, set_of}
+use Rattle.dip_desk_machine.specs.Voting.{plain_vote, set_of}
 use Rattle.dip_desk_machine.specs.View.{Suits}
 use Rattle.dip_desk_state.specs.Writable.{IsPublicOf}
 use Rattle.dip_desk_state.specs.Records.{Item, Public, Own, Kept, Standing, For, Whole}

@@ -10,7 +10,7 @@ use Rattle.dip_map.specs.declared.boards.Season.{Season}
 use Rattle.dip_map.specs.declared.boards.Season.TheVariants.{SpringMoves, SpringRetreats, FallMoves, FallRetreats, Winter}
 use Rattle.dip_desk_state.specs.Records.{Public}
 use Rattle.dip_reports.specs.Texts.{board_lines, draw_paper, game_line, marked_lines, notice_lines, notice_paper, paper_end, paper_title, phase_text}
-use Rattle.dip_turn_report.specs.declared.report.Report.{Report}
+use Rattle.dip_turn_phases.specs.declared.report.Report.{Report}
 use Rattle.dip_turn_papers.specs.Papers.{account_text, centre_line, paper_text, title}
 use Rattle.dip_desk_machine.specs.Titles.{is_capital, names_phase}
 use Rattle.std.specs.Prelude.{flat_map}

@@ -8,8 +8,8 @@ use Rattle.dip_map.specs.Charts.{Chart, Realm, no_realm, power_of, powers}
 use Rattle.dip_decide.proofs.ResultLaws.{ascending}
 use Rattle.dip_letters.specs.Letters.{FitsNames}
 use Rattle.dip_desk_games.specs.Drawing.{agreed, asked, drawn_between, first_asked, is_agreed, is_set, survives, survivors, vote_of, where_agreed}
-use Rattle.dip_desk_players.specs.Pressing.{are_distinct, is_among, named_powers, with_power}
-use Rattle.dip_desk_players.specs.Voting.{in_order, plain_vote, set_of, set_where}
+use Rattle.dip_desk_machine.specs.Pressing.{are_distinct, is_among, named_powers, with_power}
+use Rattle.dip_desk_machine.specs.Voting.{in_order, plain_vote, set_of, set_where}
 use Rattle.dip_desk_state.proofs.KeyedLemmas.{powers_tell}
 use Rattle.dip_desk_state.specs.Records.{Own, For, Whole}
 use Rattle.dip_desk_state.specs.Writable.{IsVoteOf}

@@ -21,12 +21,12 @@ use Rattle.dip_turn.specs.Laws.{WinnersOwnMore}
 use Rattle.dip_turn.specs.Reports.{IsPlayed}
 use Rattle.dip_turn.specs.Course.{Course}
 use Rattle.dip_turn.specs.Course.TheVariants.{GoesOn, Won as WonBy, Ended as AtAnEnd}
-use Rattle.dip_turn_report.specs.declared.report.Report.{Report}
+use Rattle.dip_turn_phases.specs.declared.report.Report.{Report}
 use Rattle.dip_desk_games.specs.Drawing.{public_drawn}
 use Rattle.dip_desk_machine.specs.Machine.{author, digest, master_author, opening_public, power_author, seat_author}
 use Rattle.dip_desk_machine.specs.Mail.{Mail}
 use Rattle.dip_desk_games.specs.Noting.{public_noted}
-use Rattle.dip_desk_players.specs.Pressing.{item_of}
+use Rattle.dip_desk_machine.specs.Pressing.{item_of}
 use Rattle.dip_desk_state.specs.State.{Nobody, Seat, State, TheMaster, own_at}
 use Rattle.dip_desk_games.specs.Ticking.{due_after, public_played, status_after}
 use Rattle.dip_desk_state.specs.Writable.{IsAuthorOf, IsPlainItem, IsPublicOf, IsStatusOf, IsWord, Lacks}

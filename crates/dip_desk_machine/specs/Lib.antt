@@ -1,3 +1,8 @@
+pub mod Pressing
+pub mod Voting
+pub mod OrderingRows
+pub mod PlayerCommands
+pub mod MasterCommands
 pub mod Mail
 pub mod Machine
 pub mod Sights
@@ -14,5 +19,3 @@ pub use Rattle.dip_desk_games.specs.Noting
 pub use Rattle.dip_desk_games.specs.Ordering
 pub use Rattle.dip_desk_games.specs.Ticking
 pub use Rattle.dip_desk_games.specs.Verdicts
-pub use Rattle.dip_desk_players.specs.Pressing
-pub use Rattle.dip_desk_players.specs.Voting

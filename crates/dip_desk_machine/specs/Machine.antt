@@ -12,9 +12,9 @@ use Rattle.dip_map.specs.Boards.{IsOf}
 use Rattle.dip_desk_machine.specs.Mail.{Mail}
 use Rattle.dip_desk_games.specs.Noting.{CanPublish}
 use Rattle.dip_desk_games.specs.Ordering.{has_foreign, outcome_of_lines}
-use Rattle.dip_desk_players.specs.Pressing.{item_of, readers_of}
+use Rattle.dip_desk_machine.specs.Pressing.{item_of, readers_of}
 use Rattle.dip_desk_games.specs.Ticking.{IsPlayable, is_due, is_over}
-use Rattle.dip_desk_players.specs.Voting.{plain_vote, set_of}
+use Rattle.dip_desk_machine.specs.Voting.{plain_vote, set_of}
 use Rattle.dip_desk_state.specs.State.{State, Game, Author, Nobody, TheMaster, Seat, Change, Effect, Nothing, Delivers, Part, game_at, have_room, own_at, own_of, page_of, part_at, public_at, seat_at, state_after, whole_of}
 use Rattle.dip_desk_state.specs.Writable.{IsPublicOf}
 use Rattle.dip_reports.specs.Texts.{inbox_text, refusal_line, show_text, withdrawn_line}
@@ -22,8 +22,8 @@ use Rattle.dip_desk_state.specs.Records.{Public, Own, Item, Kept, Head, Reply, F
 use Rattle.dip_desk_state.specs.declared.records.Outcome.TheVariants.{Unknown as NoneKnown, OutOfTurn as Refused, Done}
 use Rattle.dip_reports.specs.declared.refusals.Refusal.TheVariants.{Malformed, Unknown, Stale, NumberUsed, TooLong, GameOver, WrongSender}
 pub use Rattle.dip_desk_games.specs.Decided.{Verdict, NotKnown, Again, OutOfTurn, Taken, refusal_verdict, unless}
-pub use Rattle.dip_desk_masters.specs.Commands.{digest, new_seat, with_more, new_seats, opening_public, open_game, creation, paper_verdict, IsPublished, draw_verdict, OnTime, Ticks, notified, notice_verdict, replaced, replacement}
-pub use Rattle.dip_desk_players.specs.Commands.{orders_effect, orders_verdict, press_to, addressed, vote_verdict}
+pub use Rattle.dip_desk_machine.specs.MasterCommands.{digest, new_seat, with_more, new_seats, opening_public, open_game, creation, paper_verdict, IsPublished, draw_verdict, OnTime, Ticks, notified, notice_verdict, replaced, replacement}
+pub use Rattle.dip_desk_machine.specs.PlayerCommands.{orders_effect, orders_verdict, press_to, addressed, vote_verdict}
 
 -- the master, where the desk has the digest of the letter's secret
 abbrev pub master_author : Mail → State → Author

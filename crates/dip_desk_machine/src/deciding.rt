@@ -9,10 +9,10 @@ ghost use Rattle.dip_desk_state.specs.Faults.{faults_after};
 ghost use Rattle.dip_desk_state.specs.Rows as rows;
 
 use crate::numbers::old_number;
+use crate::ordering::{orders_in_game, withdraw_verdict};
+use crate::pressing::press_verdict;
+use crate::voting::{plain_vote, vote_for_verdict, vote_verdict};
 use dip_desk_games::{Verdict, refusal_verdict};
-use dip_desk_players::{
-    orders_in_game, plain_vote, press_verdict, vote_for_verdict, vote_verdict, withdraw_verdict,
-};
 use dip_desk_state::{Effect, Item, KeepFault, Own, Public};
 use dip_letters::{Command, Letter, PlayerCommand};
 use dip_map::Map;

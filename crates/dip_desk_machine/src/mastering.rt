@@ -12,9 +12,12 @@ ghost use Rattle.dip_desk_machine.specs.Sights.{game_seen, public_seen, seating_
 ghost use Rattle.dip_desk_games.specs.Verdicts.{verdict};
 ghost use Rattle.dip_desk_state.specs.Rows as rows;
 
+use crate::creating::creation;
+use crate::noting::notice_verdict;
 use crate::numbers::old_number;
+use crate::replacing::replacement;
+use crate::ticking::tick_verdict;
 use dip_desk_games::{Verdict, refusal_verdict};
-use dip_desk_masters::{creation, notice_verdict, replacement, tick_verdict};
 use dip_desk_state::{KeepFault, Kept, Public, Whole};
 use dip_letters::{Letter, Notice, Opening, Seat};
 use dip_map::Map;

@@ -3,9 +3,9 @@ use Rattle.std.specs.Prelude.{◌≡◌, ◌==◌, List, ℕ, codes, if◌then�
 use Rattle.dip_map.specs.Boards.{Position}
 use Rattle.dip_map.specs.Charts.{Chart}
 use Rattle.dip_orders_placed.specs.Standing.{units_of}
-use Rattle.dip_turn_report.specs.declared.report.Account.{Account}
-use Rattle.dip_turn_report.specs.declared.report.Account.TheVariants.{Movement as OfMovement, Retreats as OfRetreats, Adjustment as OfAdjustment}
-use Rattle.dip_turn_report.specs.declared.report.Report.{Report}
+use Rattle.dip_turn_phases.specs.declared.report.Account.{Account}
+use Rattle.dip_turn_phases.specs.declared.report.Account.TheVariants.{Movement as OfMovement, Retreats as OfRetreats, Adjustment as OfAdjustment}
+use Rattle.dip_turn_phases.specs.declared.report.Report.{Report}
 use Rattle.dip_explain.specs.Movement.{explanation}
 use Rattle.dip_explain_lines.specs.Retreats.{retreats_explained}
 use Rattle.dip_explain_lines.specs.Winter.{winter_explained}

@@ -9,8 +9,8 @@ ghost use Rattle.dip_explain_strengths.specs.Matters.{joined, order_in};
 ghost use Rattle.dip_explain.specs.Movement as m;
 
 use dip_decide::{known_at_first, meant};
-use dip_decide_orders::table_on;
 use dip_decide_rules::{Corner, Decision, Known, Resolution, Step, Table, is_in};
+use dip_decide_table::table_on;
 use dip_explain_lines::push_decision;
 use dip_explain_strengths::{Case, push_orders};
 use dip_map::{Board, Map};

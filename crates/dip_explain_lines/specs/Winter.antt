@@ -9,7 +9,7 @@ use Rattle.dip_orders_placed.specs.Allowances.{builds_due, removals_due, vacant_
 use Rattle.dip_orders.specs.Texts.{unit_text}
 use Rattle.dip_turn.specs.Adjusting.{is_among, units_of_power}
 use Rattle.dip_turn.specs.Disorder.{distance_home, first_to_go, without}
-use Rattle.dip_turn_report.specs.declared.report.Adjustment.{Adjustment}
+use Rattle.dip_turn_phases.specs.declared.report.Adjustment.{Adjustment}
 use Rattle.dip_turn.specs.Waiver.{Waiver}
 
 -- how many units a power may build, and by which numbers

@@ -1,8 +1,10 @@
 //! The program over what the system hands it.
 ghost use Rattle.std.specs.Prelude.{◌≡◌, ◌≤◌};
-ghost use Rattle.dip_judge_commands.specs.Failures as failures;
+ghost use Rattle.dip_judge.specs.Failures as failures;
 
-use dip_judge_commands::{Failure, System, run_as_asked, status_of};
+use crate::asked::run_as_asked;
+use crate::failures::{Failure, status_of};
+use crate::system::System;
 use sqlite::Unknown;
 use std::{env, io};
 

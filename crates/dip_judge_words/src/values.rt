@@ -6,7 +6,7 @@ ghost use Rattle.dip_judge_words.specs.Reading.{Answers};
 use crate::args::Args;
 use crate::numbers::number_of;
 use clap::ArgMatches;
-use dip_letters::is_secret;
+use dip_letters_words::is_secret;
 
 /// The first value that clap found for an option, if it found one.
 fn value_of<'a>(found: &ArgMatches<'a>, option: &str) -> Option<&'a str>

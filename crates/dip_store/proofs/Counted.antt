@@ -18,7 +18,7 @@ use Rattle.dip_store_counts.specs.declared.readers.Reader.{Reader}
 use Rattle.dip_store_counts.specs.declared.known.AuthorRow.{AuthorRow}
 use Rattle.dip_store_counts.specs.Knowing.{IsUnordered}
 use Rattle.dip_store_changes.specs.Parts.{changing_row, ordering_by_over, ordering_over, reaching_all}
-use Rattle.dip_store_boards.specs.Orders.{with_orders_over}
+use Rattle.dip_store_changes.specs.Orders.{with_orders_over}
 use Rattle.dip_store_counts.proofs.Listed.{still_readers}
 
 module _ (m : Chart) (name : List ℕ) (k : Kept) (e : Effect) where

@@ -1,9 +1,9 @@
 //! All papers of a game of a store, in their order.
-ghost use Rattle.dip_desk_archive.specs.Papers.{AreOut, WritesPapers};
+ghost use Rattle.dip_desk_keeper.specs.Papers.{AreOut, WritesPapers};
 ghost use Rattle.dip_store.specs.Stored.{book};
 
 use crate::keeper::SqlKeeper;
-use dip_desk_archive::{PaperFault, write_papers};
+use dip_desk_keeper::{PaperFault, write_papers};
 use dip_map::Map;
 use sqlite::Alter;
 use std::io::Write;

@@ -10,8 +10,8 @@ use Rattle.dip_store_tables.specs.Changing.{opening, publishing}
 use Rattle.dip_store_tables.specs.Tables.{GameRow, Tables}
 use Rattle.dip_store_tables.specs.Writing.{game_row, number_of, paper_row, seat_row}
 use Rattle.dip_store_sql.specs.TablesAfter.{game_as, on_game, with_game, with_paper}
-use Rattle.dip_store_boards.specs.Boards.{with_board}
-use Rattle.dip_store_rows.specs.Parts.{choosing, more_seats, with_votes}
+use Rattle.dip_store_changes.specs.Boards.{with_board}
+use Rattle.dip_store_changes.specs.Seats.{choosing, more_seats, with_votes}
 use Rattle.dip_store_changes.specs.Games.{cleared, pending_left}
 
 abbrev pub row_with : Chart → List ℕ → List ℕ → List ℕ → Public → GameRow

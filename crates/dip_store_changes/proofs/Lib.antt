@@ -1,3 +1,9 @@
+pub mod RowsMore
+pub mod Centres
+pub mod Owners
+pub mod Placing
+pub mod SeatsMore
+pub mod Joining
 pub mod Gaming
 pub mod Handing
-pub mod Orders
+pub mod OrdersKeyed

@@ -1,3 +1,7 @@
+pub mod Orders
+pub mod Boards
+pub mod Items
+pub mod Seats
 pub mod Delivering
 pub mod Games
 pub mod Parts

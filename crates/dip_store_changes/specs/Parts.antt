@@ -9,7 +9,7 @@ use Rattle.dip_store_tables.specs.Tables.{Tables}
 use Rattle.dip_store_sql.specs.Keys.{OrdersDiffer}
 use Rattle.dip_store_changes.specs.Delivering.{delivering_all}
 use Rattle.dip_store_counts.specs.Noting.{noting_row}
-use Rattle.dip_store_boards.specs.Orders.{with_orders_over}
+use Rattle.dip_store_changes.specs.Orders.{with_orders_over}
 use Rattle.dip_store_counts.specs.declared.readers.Reader.{Reader}
 use Rattle.dip_store_counts.specs.declared.known.AuthorRow.{AuthorRow}
 

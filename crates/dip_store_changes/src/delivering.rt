@@ -7,12 +7,12 @@ ghost use Rattle.dip_desk_state.specs.Rows as records;
 ghost use Rattle.dip_store_sql.specs.Keys.{ItemsDiffer};
 ghost use Rattle.dip_store_sql.specs.Transactions.{Does};
 ghost use Rattle.dip_store_changes.specs.Delivering.{ReadersAreSeats, delivering_all, delivering_rows, delivering_to, putting};
-ghost use Rattle.dip_store_rows.specs.Items.{boxed};
+ghost use Rattle.dip_store_changes.specs.Items.{boxed};
 
+use crate::items::{ItemTexts, item_texts};
 use dip_desk_state::Item;
 use dip_map::Map;
 use dip_store_counts::Reader;
-use dip_store_rows::{ItemTexts, item_texts};
 use dip_store_sql::{ItemRow, add_item, count_item};
 use sqlite::{Alter, Error, Transaction};
 use std::alloc::Global;

@@ -12,10 +12,12 @@ ghost use Rattle.dip_store_sql.specs.Transactions.{Does, always};
 ghost use Rattle.dip_store_sql.specs.RowViews as rows;
 ghost use Rattle.dip_store_changes.specs.Games.{cleared, pending_left};
 
+use crate::ballots::{open_votes, put_choice};
+use crate::boards::put_board;
+use crate::seats::add_seats;
+use crate::texts::{standoff_text, status_text};
 use dip_desk_state::{NewSeat, Public};
 use dip_map::{Map, Season};
-use dip_store_boards::put_board;
-use dip_store_rows::{add_seats, open_votes, put_choice, standoff_text, status_text};
 use dip_store_sql::{
     GameRow, add_game, add_paper, drop_items, drop_papers, drop_pending, drop_seats, renew_game,
 };

@@ -12,13 +12,14 @@ ghost use Rattle.dip_store_sql.specs.Transactions.{Does, always};
 ghost use Rattle.dip_store_changes.specs.Parts.{GivenOrdersDiffer, changing_row, ordering_by_over, ordering_over, reaching_all};
 
 use crate::authors::note_author;
+use crate::ballots::put_vote;
 use crate::delivering::deliver;
 use crate::games::{open_game, publish};
+use crate::orders::put_orders;
+use crate::seats::replace;
 use dip_desk_state::{Author, Change, Effect, Standing, Vote};
 use dip_map::Map;
-use dip_store_boards::put_orders;
 use dip_store_counts::{AuthorRow, Reader};
-use dip_store_rows::{put_vote, replace};
 use sqlite::{Alter, Error, Transaction};
 use std::alloc::Global;
 use std::rc::Rc;

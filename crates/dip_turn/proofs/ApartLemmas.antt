@@ -12,7 +12,7 @@ use Rattle.dip_decide.specs.Decision.TheVariants.{Move as Moves}
 use Rattle.dip_decide.specs.Deciding.{Assignment}
 use Rattle.dip_decide.specs.Matching.{destination, order_at, situation, target_of}
 use Rattle.dip_decide.specs.Movement.{OneEnters, Satisfies, goes, is_at, move_rule}
-use Rattle.dip_turn_moves.specs.Moving.{enters, entrant, has_moved, is_driven_out, leads_to, prov, unit_after}
+use Rattle.dip_turn_phases.specs.Moving.{enters, entrant, has_moved, is_driven_out, leads_to, prov, unit_after}
 
 leads_prov : (a : Place) (r : Order) (q : ℕ) → destination r ≡ Some q → (leads_to a r).prov ≡ q
 leads_prov a Hold q e = absurd (cc)

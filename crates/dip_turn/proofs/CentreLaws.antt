@@ -14,10 +14,10 @@ use Rattle.dip_turn_phases.specs.Centres.{holder, owner_after, owner_by, owners_
 use Rattle.dip_turn.specs.Laws.{CentresStay, IsTaken, is_fall}
 use Rattle.dip_turn_phases.specs.Phases.{Sequel, after_count, follow, goes_on, has_dislodged, last_year, needs_adjustment, new_year, sequel, year_end}
 use Rattle.dip_turn.specs.Reports.{IsPlayed, Leaves, LeavesAdjusted, LeavesMoved, LeavesRetreated}
-use Rattle.dip_turn_report.specs.declared.report.Account.{Account}
-use Rattle.dip_turn_report.specs.declared.report.Account.TheVariants.{Movement as OfMovement, Retreats as OfRetreats, Adjustment as OfAdjustment}
+use Rattle.dip_turn_phases.specs.declared.report.Account.{Account}
+use Rattle.dip_turn_phases.specs.declared.report.Account.TheVariants.{Movement as OfMovement, Retreats as OfRetreats, Adjustment as OfAdjustment}
 use Rattle.dip_turn_phases.specs.declared.lines.Course.TheVariants.{GoesOn, Ended}
-use Rattle.dip_turn_report.specs.declared.report.Report.{Report}
+use Rattle.dip_turn_phases.specs.declared.report.Report.{Report}
 
 taken_by : (m : Chart) (us : List AUnit) (p : ℕ) (o : Option ℕ) → is_centre m p ≡ true → (h : Option AUnit) → holder us p ≡ h → (owner_by h o ≡ o) ⊎ IsTaken m us p (owner_by h o)
 taken_by m us p o centre None is = inl refl

@@ -11,7 +11,7 @@ use Rattle.dip_orders_placed.specs.declared.placed.PlacedOrder.{PlacedOrder}
 use Rattle.dip_turn_phases.specs.Adjusting.{disorder, is_among, is_given, units_built, units_kept, units_staying}
 use Rattle.dip_turn.specs.Laws.{RetreatsLoseNobodyElse, WintersAddBuildsAlone, WintersRemoveAlone}
 use Rattle.dip_turn_phases.specs.Retreating.{after_retreat, after_retreats}
-use Rattle.dip_turn_moves.proofs.KeptLemmas.{all_here, given, kept_in, weaker}
+use Rattle.dip_turn_phases.proofs.KeptLemmas.{all_here, given, kept_in, weaker}
 
 ReturnsOf : Position → List PlacedOrder → AUnit → Type 0
 ReturnsOf b pending u = (d : Dislodged) × Contains b.dislodged d × (after_retreat pending b.dislodged d ≡ Some u)

@@ -34,20 +34,20 @@ use Rattle.dip_turn_phases.specs.Adjusting.{after_adjustment, disorder, is_among
 use Rattle.dip_turn_phases.specs.Centres.{holder, owner_by, owners_after, winner, with_owners}
 use Rattle.dip_turn.specs.Laws.{BoardsStayOfTheirMap, RetreatsAreOpen}
 use Rattle.dip_turn.specs.Laws.{UnitsStandApart}
-use Rattle.dip_turn_moves.specs.Moving.{after_moves, at_destination, dislodged_after, dislodged_unit, entrant, enters, has_moved, is_driven_out, leads_to, may_go, moved_board, origin, prov, standing_after, unit_after}
+use Rattle.dip_turn_phases.specs.Moving.{after_moves, at_destination, dislodged_after, dislodged_unit, entrant, enters, has_moved, is_driven_out, leads_to, may_go, moved_board, origin, prov, standing_after, unit_after}
 use Rattle.dip_turn_phases.specs.Phases.{Sequel, after_count, follow, goes_on, has_dislodged, in_phase, last_year, needs_adjustment, new_year, sequel, year_end}
 use Rattle.dip_turn.specs.Reports.{Leaves, LeavesAdjusted, LeavesMoved, LeavesRetreated}
 use Rattle.dip_turn_phases.specs.Retreating.{after_retreat, after_retreats}
-use Rattle.dip_turn_report.specs.declared.report.Account.{Account}
-use Rattle.dip_turn_report.specs.declared.report.Account.TheVariants.{Movement as OfMovement, Retreats as OfRetreats, Adjustment as OfAdjustment}
+use Rattle.dip_turn_phases.specs.declared.report.Account.{Account}
+use Rattle.dip_turn_phases.specs.declared.report.Account.TheVariants.{Movement as OfMovement, Retreats as OfRetreats, Adjustment as OfAdjustment}
 use Rattle.dip_turn_phases.specs.declared.lines.Course.TheVariants.{GoesOn, Ended}
 use Rattle.dip_turn.proofs.CentreLaws.{owners_at, owners_count}
-use Rattle.dip_turn_moves.proofs.KeptLemmas.{movements_keep_units, not_true}
+use Rattle.dip_turn_phases.proofs.KeptLemmas.{movements_keep_units, not_true}
 use Rattle.dip_turn.proofs.KeptLemmas.{retreats_lose_nobody_else}
 use Rattle.dip_turn.proofs.PlaceLemmas.{built_unit, led_unit, retreat_place}
 use Rattle.dip_turn.proofs.RefugeLemmas.{found_in, refuge_of, retreats_meet_nowhere}
 use Rattle.dip_turn.proofs.SingleLemmas.{found_itself, given_from, kept_from, made_from, made_given, single_append, single_by_power, single_filtered, single_given, single_kept, somebody}
-use Rattle.dip_turn_moves.proofs.StandoffLemmas.{standoffs_are_lawful}
+use Rattle.dip_turn_phases.proofs.StandoffLemmas.{standoffs_are_lawful}
 
 -- each of the orders is lawful beside those of its power
 abbrev pub AreEachLawful : Chart → Position → List PlacedOrder → Type 0

@@ -13,14 +13,14 @@ use Rattle.dip_decide.specs.Results.{AreExplained, broken_in, values_in}
 use Rattle.dip_decide.specs.Steps.{steps_of}
 use Rattle.dip_turn_phases.specs.Centres.{centre_lines}
 use Rattle.dip_turn.specs.Laws.{AreAlike, DecideAlike, IsSame}
-use Rattle.dip_turn_moves.specs.Moving.{after_moves}
-use Rattle.dip_turn_moves.specs.Outcomes.{movement_lines}
+use Rattle.dip_turn_phases.specs.Moving.{after_moves}
+use Rattle.dip_turn_phases.specs.Outcomes.{movement_lines}
 use Rattle.dip_turn_phases.specs.Phases.{Sequel, follow, sequel}
 use Rattle.dip_turn.specs.Reports.{IsMoved, IsPlayed, Leaves, LeavesAdjusted, LeavesMoved, LeavesRetreated}
-use Rattle.dip_turn_report.specs.declared.report.Account.{Account}
-use Rattle.dip_turn_report.specs.declared.report.Account.TheVariants.{Movement as OfMovement, Retreats as OfRetreats, Adjustment as OfAdjustment}
-use Rattle.dip_turn_report.specs.declared.report.Movement.{Movement}
-use Rattle.dip_turn_report.specs.declared.report.Report.{Report}
+use Rattle.dip_turn_phases.specs.declared.report.Account.{Account}
+use Rattle.dip_turn_phases.specs.declared.report.Account.TheVariants.{Movement as OfMovement, Retreats as OfRetreats, Adjustment as OfAdjustment}
+use Rattle.dip_turn_phases.specs.declared.report.Movement.{Movement}
+use Rattle.dip_turn_phases.specs.declared.report.Report.{Report}
 use Rattle.dip_turn.proofs.AscendingLemmas.{listed_alike}
 
 -- two assignments with the same values are one

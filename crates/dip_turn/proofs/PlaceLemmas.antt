@@ -23,7 +23,7 @@ use Rattle.dip_map.proofs.BoardLaws.{centre_low}
 use Rattle.dip_orders.proofs.LawfulReadLaws.{coast_low, fleets_next, foot_coast, foot_near, home_centre, next_low}
 use Rattle.dip_orders_placed.proofs.RetreatLaws.{retreats_exact}
 use Rattle.dip_orders.proofs.SpotLaws.{shape_of}
-use Rattle.dip_turn_moves.specs.Moving.{leads_to}
+use Rattle.dip_turn_phases.specs.Moving.{leads_to}
 
 coast_dry : (t : Terrain) → is_coastal t ≡ true → is_sea t ≡ false
 coast_dry Inland h = refl

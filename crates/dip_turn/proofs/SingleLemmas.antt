@@ -10,7 +10,7 @@ use Rattle.dip_orders_placed.specs.Standing.{units_of}
 use Rattle.dip_orders_placed.specs.declared.placed.PlacedOrder.{PlacedOrder}
 use Rattle.dip_orders_placed.proofs.StandingLaws.{element_cases, made_among}
 use Rattle.dip_decide.specs.Matching.{order_at}
-use Rattle.dip_turn_moves.proofs.KeptLemmas.{kept_in}
+use Rattle.dip_turn_phases.proofs.KeptLemmas.{kept_in}
 
 -- a test that no element passes
 pub nobody : {A : Type 0} (q : A → Bool) (xs : List A) → ((x : A) → Contains xs x → q x ≡ true → ⊥) → list_any q xs ≡ false

@@ -26,13 +26,13 @@ use Rattle.dip_turn_phases.specs.Adjusting.{after_adjustment, builds_given, diso
 use Rattle.dip_turn.specs.Laws.{BuildsStand, IsEvened, WintersEvenUnits}
 use Rattle.dip_turn_phases.specs.Phases.{Sequel, follow, has_dislodged, in_phase, last_year, new_year, sequel}
 use Rattle.dip_turn.specs.Reports.{IsPlayed, Leaves, LeavesAdjusted}
-use Rattle.dip_turn_report.specs.declared.report.Account.{Account}
-use Rattle.dip_turn_report.specs.declared.report.Account.TheVariants.{Movement as OfMovement, Retreats as OfRetreats, Adjustment as OfAdjustment}
+use Rattle.dip_turn_phases.specs.declared.report.Account.{Account}
+use Rattle.dip_turn_phases.specs.declared.report.Account.TheVariants.{Movement as OfMovement, Retreats as OfRetreats, Adjustment as OfAdjustment}
 use Rattle.dip_turn_phases.specs.declared.lines.Course.TheVariants.{GoesOn, Ended}
-use Rattle.dip_turn_report.specs.declared.report.Report.{Report}
+use Rattle.dip_turn_phases.specs.declared.report.Report.{Report}
 use Rattle.dip_turn.proofs.CountLemmas.{count_append, count_kept, count_map, fewer, flat_among, flat_from, number_among, kept_alike, kept_in_turn, one_if, some_or_none}
 use Rattle.dip_turn.proofs.DisorderCounts.{goes_among, stays_count}
-use Rattle.dip_turn_moves.proofs.KeptLemmas.{kept_in}
+use Rattle.dip_turn_phases.proofs.KeptLemmas.{kept_in}
 use Rattle.dip_turn.proofs.MapLemmas.{AreEachLawful, come_of, each_lawful}
 use Rattle.dip_turn.proofs.RefugeLemmas.{found_in}
 use Rattle.dip_turn.proofs.SingleLemmas.{alone, behind, first, kept_from, made_from, others_single, single_filtered, single_kept, somebody}

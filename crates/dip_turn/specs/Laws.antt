@@ -17,18 +17,18 @@ use Rattle.dip_decide.specs.Laws.{AreOrders}
 use Rattle.dip_decide.specs.Matching.{order_at, situation}
 use Rattle.dip_decide.specs.Movement.{Satisfies}
 use Rattle.dip_decide.specs.Resolution.{Resolution}
-use Rattle.dip_turn_moves.specs.Moving.{is_driven_out, prov, unit_after}
+use Rattle.dip_turn_phases.specs.Moving.{is_driven_out, prov, unit_after}
 use Rattle.dip_orders.specs.Conditions.{is_retreat}
 use Rattle.dip_turn_phases.specs.Adjusting.{after_adjustment, builds_given, disorder, is_among, is_given, units_built}
 use Rattle.dip_turn_phases.specs.Centres.{has_won, holder}
 use Rattle.dip_turn_phases.specs.Phases.{has_dislodged, last_year}
 use Rattle.dip_turn.specs.Reports.{IsPlayed}
 use Rattle.dip_turn_phases.specs.Retreating.{after_retreat, after_retreats}
-use Rattle.dip_turn_report.specs.declared.report.Account.{Account}
-use Rattle.dip_turn_report.specs.declared.report.Account.TheVariants.{Movement as OfMovement, Retreats as OfRetreats, Adjustment as OfAdjustment}
+use Rattle.dip_turn_phases.specs.declared.report.Account.{Account}
+use Rattle.dip_turn_phases.specs.declared.report.Account.TheVariants.{Movement as OfMovement, Retreats as OfRetreats, Adjustment as OfAdjustment}
 use Rattle.dip_turn_phases.specs.declared.lines.Course.{Course}
 use Rattle.dip_turn_phases.specs.declared.lines.Course.TheVariants.{GoesOn, Won, Ended}
-use Rattle.dip_turn_report.specs.declared.report.Report.{Report}
+use Rattle.dip_turn_phases.specs.declared.report.Report.{Report}
 
 -- after a movement no two units stand in one province: two that aren't dislodged and stand in one came from one
 abbrev pub UnitsStandApart : Type 0

@@ -1,10 +1,10 @@
 pub mod Reports
 pub mod Laws
-pub use Rattle.dip_turn_moves.specs.Moving
-pub use Rattle.dip_turn_moves.specs.Outcomes
-pub use Rattle.dip_turn_moves.specs.declared.lines.Fate
-pub use Rattle.dip_turn_moves.specs.declared.lines.MovementLine
-pub use Rattle.dip_turn_moves.specs.declared.lines.Outcome
+pub use Rattle.dip_turn_phases.specs.Moving
+pub use Rattle.dip_turn_phases.specs.Outcomes
+pub use Rattle.dip_turn_phases.specs.declared.lines.Fate
+pub use Rattle.dip_turn_phases.specs.declared.lines.MovementLine
+pub use Rattle.dip_turn_phases.specs.declared.lines.Outcome
 pub use Rattle.dip_turn_phases.specs.Adjusting
 pub use Rattle.dip_turn_phases.specs.Centres
 pub use Rattle.dip_turn_phases.specs.Disorder

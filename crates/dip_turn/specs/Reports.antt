@@ -14,15 +14,15 @@ use Rattle.dip_decide.specs.Results.{AreExplained, AreInOrder, IsOnly, broken_in
 use Rattle.dip_decide.specs.Steps.{steps_of}
 use Rattle.dip_turn_phases.specs.Adjusting as adjusting
 use Rattle.dip_turn_phases.specs.Centres.{centre_lines}
-use Rattle.dip_turn_moves.specs.Moving.{after_moves}
-use Rattle.dip_turn_moves.specs.Outcomes.{movement_lines}
+use Rattle.dip_turn_phases.specs.Moving.{after_moves}
+use Rattle.dip_turn_phases.specs.Outcomes.{movement_lines}
 use Rattle.dip_turn_phases.specs.Phases.{sequel, follow}
 use Rattle.dip_turn_phases.specs.Retreating.{after_retreats, retreat_lines}
-use Rattle.dip_turn_report.specs.declared.report.Account.{Account}
-use Rattle.dip_turn_report.specs.declared.report.Account.TheVariants.{Movement as OfMovement, Retreats as OfRetreats, Adjustment as OfAdjustment}
-use Rattle.dip_turn_report.specs.declared.report.Adjustment.{Adjustment}
-use Rattle.dip_turn_report.specs.declared.report.Movement.{Movement}
-use Rattle.dip_turn_report.specs.declared.report.Report.{Report}
+use Rattle.dip_turn_phases.specs.declared.report.Account.{Account}
+use Rattle.dip_turn_phases.specs.declared.report.Account.TheVariants.{Movement as OfMovement, Retreats as OfRetreats, Adjustment as OfAdjustment}
+use Rattle.dip_turn_phases.specs.declared.report.Adjustment.{Adjustment}
+use Rattle.dip_turn_phases.specs.declared.report.Movement.{Movement}
+use Rattle.dip_turn_phases.specs.declared.report.Report.{Report}
 
 -- a movement of the orders that stand, one for each unit, as they are meant: its values satisfy the decision equations but for the paths that are named as
 -- broken, steps explain them and break these paths, and whatever steps explain the same orders come to the same; the lists are in order,

@@ -5,10 +5,9 @@ mod laws;
 mod playing;
 
 pub use dip_orders::{allowance, retreats};
-pub use dip_turn_phases::{distance_home, first_to_go, refuge};
-pub use dip_turn_report::{
+pub use dip_turn_phases::{
     Account, Adjustment, CentreLine, Course, Fate, Movement, MovementLine, Outcome, Report,
-    RetreatLine, Waiver,
+    RetreatLine, Waiver, distance_home, first_to_go, refuge,
 };
 pub use laws::{
     boards_stay_of_their_map, centres_change_in_fall, only_retreats_have_dislodged, phases_follow,

@@ -7,12 +7,11 @@ ghost use Rattle.dip_turn.specs.Reports.{IsMoved, IsAdjusted, LeavesMoved, Leave
 use dip_decide::{meant, resolve};
 use dip_map::{Board, Map, Season};
 use dip_orders::{Orders, PlacedOrder, each_unit_has_one_order};
-use dip_turn_moves::{moved_board, movement_lines, without_destroyed};
 use dip_turn_phases::{
-    after_adjustment, after_retreats, centre_lines, follow, retreat_lines, units_built,
-    units_given, units_in_disorder, waivers,
+    Account, Adjustment, Movement, Report, after_adjustment, after_retreats, centre_lines, follow,
+    moved_board, movement_lines, retreat_lines, units_built, units_given, units_in_disorder,
+    waivers, without_destroyed,
 };
-use dip_turn_report::{Account, Adjustment, Movement, Report};
 use std::alloc::{AllocError, Global};
 
 /// The board that a movement leaves, and what is told of it.

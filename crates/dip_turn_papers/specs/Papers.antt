@@ -7,18 +7,18 @@ use Rattle.dip_map.specs.declared.boards.Phase.{Phase}
 use Rattle.dip_orders.specs.Texts.{order_text}
 use Rattle.dip_orders_placed.specs.declared.placed.Order.{Order}
 use Rattle.dip_orders_placed.specs.declared.placed.Order.TheVariants.{Build, Remove}
-use Rattle.dip_turn_report.specs.Fate.{Fate}
-use Rattle.dip_turn_report.specs.Fate.TheVariants.{Stands, Dislodged, Destroyed}
-use Rattle.dip_turn_report.specs.MovementLine.{MovementLine}
-use Rattle.dip_turn_report.specs.Outcome.{Outcome}
-use Rattle.dip_turn_report.specs.Outcome.TheVariants.{Holds, Moves, Bounced, NoRoute, Given, Cut, Void, Convoys}
-use Rattle.dip_turn_report.specs.declared.report.Account.{Account}
-use Rattle.dip_turn_report.specs.declared.report.Account.TheVariants.{Movement as OfMovement, Retreats as OfRetreats, Adjustment as OfAdjustment}
-use Rattle.dip_turn_report.specs.declared.report.Adjustment.{Adjustment}
-use Rattle.dip_turn_report.specs.CentreLine.{CentreLine}
-use Rattle.dip_turn_report.specs.declared.report.Report.{Report}
-use Rattle.dip_turn_report.specs.RetreatLine.{RetreatLine}
-use Rattle.dip_turn_report.specs.Waiver.{Waiver}
+use Rattle.dip_turn_phases.specs.declared.lines.Fate.{Fate}
+use Rattle.dip_turn_phases.specs.declared.lines.Fate.TheVariants.{Stands, Dislodged, Destroyed}
+use Rattle.dip_turn_phases.specs.declared.lines.MovementLine.{MovementLine}
+use Rattle.dip_turn_phases.specs.declared.lines.Outcome.{Outcome}
+use Rattle.dip_turn_phases.specs.declared.lines.Outcome.TheVariants.{Holds, Moves, Bounced, NoRoute, Given, Cut, Void, Convoys}
+use Rattle.dip_turn_phases.specs.declared.report.Account.{Account}
+use Rattle.dip_turn_phases.specs.declared.report.Account.TheVariants.{Movement as OfMovement, Retreats as OfRetreats, Adjustment as OfAdjustment}
+use Rattle.dip_turn_phases.specs.declared.report.Adjustment.{Adjustment}
+use Rattle.dip_turn_phases.specs.declared.lines.CentreLine.{CentreLine}
+use Rattle.dip_turn_phases.specs.declared.report.Report.{Report}
+use Rattle.dip_turn_phases.specs.declared.lines.RetreatLine.{RetreatLine}
+use Rattle.dip_turn_phases.specs.declared.lines.Waiver.{Waiver}
 use Rattle.dip_desk_state.specs.Records.{Public}
 use Rattle.dip_reports.specs.Texts.{board_lines, game_line, phase_text}
 use Rattle.dip_turn_papers.specs.declared.lines.PaperLine.{PaperLine}

@@ -9,7 +9,7 @@ use dip_desk_state::Public;
 use dip_map::{Map, Phase};
 use dip_names::Power;
 use dip_reports::{push_board_lines, push_game_line, push_phase};
-use dip_turn_report::{Account, Adjustment, CentreLine, Report, Waiver};
+use dip_turn_phases::{Account, Adjustment, CentreLine, Report, Waiver};
 use std::alloc::{AllocError, Global};
 
 /// Bytes at first for the paper of a phase: more than most take on the standard map.

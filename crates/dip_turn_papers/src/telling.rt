@@ -5,7 +5,7 @@ ghost use Rattle.dip_turn_papers.specs.Papers.{adjusted_lines, disorder_lines, m
 use crate::lines::{PaperLine, Told};
 use dip_names::Unit;
 use dip_orders::{Order, PlacedOrder};
-use dip_turn_report::{Adjustment, MovementLine, RetreatLine};
+use dip_turn_phases::{Adjustment, MovementLine, RetreatLine};
 use std::alloc::{AllocError, Global};
 
 /// A paper's lines for the orders of a movement, in their order.

@@ -1,3 +1,9 @@
+pub mod ListLemmas
+pub mod OrderLemmas
+pub mod MovingLemmas
+pub mod ToldLemmas
+pub mod KeptLemmas
+pub mod StandoffLemmas
 pub mod DistanceLemmas
 pub mod DisorderLemmas
 pub mod CentreLemmas

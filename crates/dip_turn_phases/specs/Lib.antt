@@ -1,3 +1,6 @@
+pub mod Moving
+pub mod Outcomes
+pub mod Laws
 pub mod Distances
 pub mod Disorder
 pub mod Retreating

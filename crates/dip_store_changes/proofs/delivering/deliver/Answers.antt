@@ -1,7 +1,7 @@
 use Rattle.dip_desk_state.specs.Rows as records
 use Rattle.dip_store_tables.specs.Writing.{box_row}
 use Rattle.dip_store_sql.proofs.Joining.{does_as}
-use Rattle.dip_store_rows.specs.Items.{boxed}
+use Rattle.dip_store_changes.specs.Items.{boxed}
 use Rattle.dip_store_changes.proofs.Handing.{same_rows}
 use Rattle.dip_store_changes.proofs.delivering.deliver.Goals as goal
 

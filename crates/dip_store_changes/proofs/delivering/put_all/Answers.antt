@@ -5,7 +5,7 @@ use Rattle.sqlite.specs.declared.error.Error.{Error}
 use Rattle.sqlite.specs.Held.{state}
 use Rattle.dip_store_sql.proofs.Joining.{does_and, does_fail, does_more, does_ok}
 use Rattle.dip_store_sql.specs.Keys.{ItemsDiffer}
-use Rattle.dip_store_rows.specs.Items.{boxed}
+use Rattle.dip_store_changes.specs.Items.{boxed}
 use Rattle.dip_store_changes.specs.Delivering.{delivering_rows}
 use Rattle.dip_store_changes.proofs.Handing.{reader_apart, reader_more}
 use Rattle.dip_store_sql.proofs.Parts.{went}

@@ -3,7 +3,7 @@ use Rattle.sqlite.specs.Held.{state}
 use Rattle.sqlite.specs.declared.error.Error.{Error}
 use Rattle.dip_store_sql.proofs.Parts.{went}
 use Rattle.dip_store_sql.specs.Transactions.{Does, always}
-use Rattle.dip_store_rows.specs.Items.{boxed}
+use Rattle.dip_store_changes.specs.Items.{boxed}
 use Rattle.dip_store_changes.specs.Delivering.{delivering_rows}
 use Rattle.dip_store_changes.proofs.delivering.put_all.Given as goal
 

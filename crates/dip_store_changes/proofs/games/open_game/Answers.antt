@@ -5,8 +5,8 @@ use Rattle.dip_desk_state.specs.Rows as records
 use Rattle.dip_store_tables.specs.Changing.{opening}
 use Rattle.dip_store_sql.specs.Keys.{AreKeyed}
 use Rattle.dip_store_sql.proofs.Joining.{does_and, does_as, does_fail, does_ok}
-use Rattle.dip_store_boards.specs.Boards.{with_board}
-use Rattle.dip_store_rows.specs.Parts.{with_votes}
+use Rattle.dip_store_changes.specs.Boards.{with_board}
+use Rattle.dip_store_changes.specs.Seats.{with_votes}
 use Rattle.dip_store_changes.proofs.Gaming.{opened}
 use Rattle.dip_store_changes.proofs.games.open_game.Goals as goal
 

@@ -5,7 +5,7 @@ use Rattle.dip_store_counts.specs.Noting.{noting_row}
 use Rattle.dip_store_sql.specs.Keys.{AreKeyed}
 use Rattle.dip_store_sql.proofs.Joining.{does_and, does_as, does_fail}
 use Rattle.dip_store_changes.specs.Parts.{changing_row, ordering_over, reaching_all}
-use Rattle.dip_store_changes.proofs.Orders.{orders_keyed}
+use Rattle.dip_store_changes.proofs.OrdersKeyed.{orders_keyed}
 use Rattle.dip_store_changes.proofs.parts.make_parts.Goals as goal
 
 pub returns-clause-does : goal.returns-clause-does

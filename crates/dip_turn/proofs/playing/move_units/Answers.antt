@@ -3,8 +3,8 @@ use Rattle.dip_map.specs.Boards.{Position}
 use Rattle.dip_orders_placed.specs.declared.placed.PlacedOrder.{PlacedOrder}
 use Rattle.dip_decide.specs.Meaning.{meant_on}
 use Rattle.dip_decide.specs.Results.{values_in}
-use Rattle.dip_turn_moves.specs.Moving.{moved_board, without_destroyed}
-use Rattle.dip_turn_moves.specs.Outcomes.{lines_on}
+use Rattle.dip_turn_phases.specs.Moving.{moved_board, without_destroyed}
+use Rattle.dip_turn_phases.specs.Outcomes.{lines_on}
 use Rattle.dip_turn.proofs.playing.move_units.Goals as goal
 
 pub returns : goal.returns

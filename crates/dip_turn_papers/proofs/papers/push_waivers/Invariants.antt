@@ -1,5 +1,5 @@
 use Rattle.std.proofs.Common.{◌≡◌, ◌++◌, ◌==◌, drop, filter, flat_map, string_bytes}
-use Rattle.dip_turn_report.specs.Waiver.{Waiver}
+use Rattle.dip_turn_phases.specs.declared.lines.Waiver.{Waiver}
 use Rattle.dip_turn_papers.specs.Papers.{waiver_line}
 use Rattle.dip_turn_papers.proofs.papers.push_waivers.Given as goal
 

@@ -1,2 +1,0 @@
-pub mod OrderingLemmas
-pub mod PressLemmas

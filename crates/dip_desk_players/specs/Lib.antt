@@ -1,4 +1,0 @@
-pub mod Pressing
-pub mod Voting
-pub mod OrderingRows
-pub mod Commands

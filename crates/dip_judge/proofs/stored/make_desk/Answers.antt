@@ -1,0 +1,18 @@
+use Rattle.std.proofs.Common.{[], None, refl, subst}
+use Rattle.dip_store.proofs.Opened.{leaves_text}
+use Rattle.dip_store.specs.Opening.{Opens}
+use Rattle.dip_judge.proofs.StoredLemmas.{holds, unmade_by}
+use Rattle.dip_judge.proofs.stored.make_desk.Goals as goal
+
+pub returns-in-Ok-clause-made : goal.returns-in-Ok-clause-made
+returns-in-Ok-clause-made g c =
+    rw c.into_store.ensures
+    (λ honest. (
+      holds g.S.Store c.args.map.now _ c.in-Ok.keeper
+          (subst (λ d. Opens g.S.Store c.args.map.now (record { desk = record { digest = d; kept = None }; games = [] }) c.in-Ok.keeper) c.digest-digest.ensures (c.in-Ok.ensures.opened honest)),
+      c.in-Ok.ensures.made honest,
+      leaves_text g.S.Store c.args.map.now c.args.text.now c.in-Ok.keeper c.in-Ok.keeper c.in-Ok.ensures.of_map refl (c.in-Ok.ensures.opened honest).again,
+    ))
+
+pub returns-in-Err-clause-unmade : goal.returns-in-Err-clause-unmade
+returns-in-Err-clause-unmade g c = unmade_by g.S.Store c.args.map.now c.args.text.now _ c.args.store _ _ c.in-Err.ensures

@@ -1,0 +1,264 @@
+//! What the program does with its words: over any files, input and output.
+ghost use Rattle.std.specs.Prelude.{map as each, IfErr, IfSome, OnOk};
+ghost use Rattle.sqlite.specs.Files.{over_files};
+ghost use Rattle.sqlite.specs.WalFiles.{image_at};
+ghost use Rattle.dip_judge.specs.Asked.{Fails, IfAsked, IsAskedFor, IsAskedOver, IsDone, IsFailed, IsInitFailure, Streams};
+ghost use Rattle.dip_judge.specs.Files.{AnswersIn, AnswersUpTo, IfOpened, LeavesStore, MadeIn, ReportsIn, ServesIn, StopsReportIn, StopsServingIn, StopsStore, TellsOfFile, TellsStore, UnmadeIn, WasOpened};
+ghost use Rattle.dip_judge.specs.Lasting.{LastsAs, LastsIn, LastsServing, LeavesLawful};
+ghost use Rattle.dip_judge.specs.Stores.{IsReportFailure, IsServeFailure, ReadsInput};
+ghost use Rattle.dip_judge.specs.FileFaults.{IsFindFault, IsOpenFault};
+ghost use Rattle.dip_store.specs.Calls.{is_honest};
+ghost use Rattle.dip_store.specs.Opening.{SaysText};
+
+use crate::checking::{check, explain};
+use crate::failures::Failure;
+use crate::stored::{answer_stored, close_file, make_desk, report_stored, serve_stored};
+use crate::system::{Stored, System};
+use crate::version::write_version;
+use dip_desk_machine::new_desks_are_lawful;
+use dip_judge_runs::{answer_letters, text_said};
+use dip_judge_words::{Args, read_args};
+use dip_map::Map;
+use dip_map_text::STANDARD;
+use sqlite::Start;
+use std::io::{Read, Write};
+
+/// Makes a desk in the store of a file, which is handed back where it was opened.
+fn init_file<S: Start>(
+    system: &System<'_>,
+    start: S,
+    path: &str,
+    map: &Map,
+    text: &str,
+    master: &str,
+) -> (Result<(), Failure>, Option<Stored<S>>)
+    ensures made { OnOk result.0
+        (WasOpened result.1 (MadeIn over_files map.now master.now)) }
+    ensures unmade { IfErr result.0
+        (λ f. IfOpened IsOpenFault f result.1 (UnmadeIn over_files (image_at S.Start))) }
+    ensures failed { IfErr result.0 IsInitFailure }
+    ensures tells { IfSome result.1 (λ store. is_honest over_files store
+        → OnOk result.0 (SaysText over_files text.now store)) }
+    ensures lasts { IfSome result.1 (λ store. is_honest over_files store
+        → OnOk result.0 (LeavesLawful over_files map.now text.now store)) }
+{
+    new_desks_are_lawful();
+    match system.open_new(start, path) {
+        Err(fault) => (Err(Failure::Store(fault)), None),
+        Ok(store) => match make_desk(system.alloc(), store, map, text, master) {
+            (Ok(()), store) => (Ok(()), Some(store)),
+            (Err(fault), store) => (Err(Failure::Store(fault)), Some(store)),
+        },
+    }
+}
+
+/// Answers the letters of a reader from the desk of a file on. The store is handed back where it was opened.
+fn answer_file<S: Start, R: Read, W: Write>(
+    system: &System<'_>,
+    start: S,
+    path: &str,
+    map: &Map,
+    text: &str,
+    reader: &mut R,
+    writer: &mut W,
+) -> (Result<(), Failure>, Option<Stored<S>>)
+    ensures done { OnOk result.0 (WasOpened result.1 (AnswersIn over_files (image_at S.Start)
+        map.now (R.remaining reader.old) (R.remaining reader.new) (W.contents writer.old)
+        (W.contents writer.new))) }
+    ensures stops { IfErr result.0 (λ f. IfOpened IsFindFault f result.1
+        (AnswersUpTo over_files (image_at S.Start) map.now (R.remaining reader.old)
+        (R.remaining reader.new) (W.contents writer.old) (W.contents writer.new) f)) }
+    ensures reads { ReadsInput (R.remaining reader.old) (R.remaining reader.new)
+        (W.contents writer.old) (W.contents writer.new) result.0 }
+    ensures tells { IfSome result.1 (λ store.
+        TellsOfFile over_files (image_at S.Start) map.now text.now store result.0) }
+    ensures lasts { IfSome result.1 (λ store.
+        LastsIn over_files (image_at S.Start) map.now text.now store result.0) }
+{
+    match system.open_present(start, path) {
+        Err(fault) => (Err(Failure::Store(fault)), None),
+        Ok(store) => {
+            let (answered, store) = answer_stored(system.alloc(), store, map, text, reader, writer);
+            (answered, Some(store))
+        }
+    }
+}
+
+/// Serves so many clients on a port from the desk of a file on. The store is handed back where it was opened.
+fn serve_file<S: Start>(
+    system: &System<'_>,
+    start: S,
+    path: &str,
+    map: &Map,
+    text: &str,
+    port: u16,
+    count: u32,
+) -> (Result<(), Failure>, Option<Stored<S>>)
+    ensures done { OnOk result.0
+        (WasOpened result.1 (ServesIn over_files (image_at S.Start) map.now count)) }
+    ensures stops { IfErr result.0 (λ f. IfOpened IsFindFault f result.1
+        (StopsServingIn over_files (image_at S.Start) map.now count f)) }
+    ensures failed { IfErr result.0 IsServeFailure }
+    ensures tells { IfSome result.1 (λ store.
+        TellsOfFile over_files (image_at S.Start) map.now text.now store result.0) }
+    ensures lasts { IfSome result.1 (λ store.
+        LastsServing over_files (image_at S.Start) map.now text.now store result.0) }
+{
+    match system.open_present(start, path) {
+        Err(fault) => (Err(Failure::Store(fault)), None),
+        Ok(store) => {
+            let (served, store) = serve_stored(system, store, map, text, port, count);
+            (served, Some(store))
+        }
+    }
+}
+
+/// Writes all papers of a game of the desk of a file. The store is handed back where it was opened.
+fn report_file<S: Start, W: Write>(
+    system: &System<'_>,
+    start: S,
+    path: &str,
+    map: &Map,
+    text: &str,
+    game: &str,
+    writer: &mut W,
+) -> (Result<(), Failure>, Option<Stored<S>>)
+    ensures done { OnOk result.0 (WasOpened result.1 (ReportsIn over_files (image_at S.Start)
+        map.now game.now (W.contents writer.old) (W.contents writer.new))) }
+    ensures stops { IfErr result.0 (λ f. IfOpened IsFindFault f result.1
+        (StopsReportIn over_files (image_at S.Start) map.now game.now (W.contents writer.old)
+        (W.contents writer.new) f)) }
+    ensures failed { IfErr result.0 IsReportFailure }
+    ensures tells { IfSome result.1 (λ store.
+        TellsOfFile over_files (image_at S.Start) map.now text.now store result.0) }
+    ensures lasts { IfSome result.1 (λ store.
+        LastsIn over_files (image_at S.Start) map.now text.now store result.0) }
+{
+    match system.open_present(start, path) {
+        Err(fault) => (Err(Failure::Store(fault)), None),
+        Ok(store) => {
+            let (reported, store) = report_stored(system.alloc(), store, map, text, game, writer);
+            (reported, Some(store))
+        }
+    }
+}
+
+/// Does what is asked for, over a map of which this is the text.
+fn do_asked<S: Start, R: Read, W: Write>(
+    system: &System<'_>,
+    start: S,
+    args: &Args<'_>,
+    map: &Map,
+    text: &str,
+    reader: &mut R,
+    writer: &mut W,
+) -> (Result<(), Failure>, Option<Stored<S>>)
+    ensures done { OnOk result.0 (Streams map.now (R.remaining reader.old) (R.remaining reader.new)
+        (W.contents writer.old) (W.contents writer.new) args.now) }
+    ensures failed { IfErr result.0 (Fails map.now (R.remaining reader.old)
+        (R.remaining reader.new) (W.contents writer.old) (W.contents writer.new) args.now) }
+    ensures leaves { OnOk result.0 (LeavesStore over_files (image_at S.Start) map.now
+        (R.remaining reader.old) (R.remaining reader.new) (W.contents writer.old)
+        (W.contents writer.new) args.now result.1) }
+    ensures stops { IfErr result.0 (λ f. StopsStore over_files (image_at S.Start) map.now
+        (R.remaining reader.old) (R.remaining reader.new) (W.contents writer.old)
+        (W.contents writer.new) args.now f result.1) }
+    ensures tells { IfSome result.1 (λ store.
+        TellsStore over_files (image_at S.Start) map.now text.now args.now store result.0) }
+    ensures lasts { IfSome result.1 (λ store.
+        LastsAs over_files (image_at S.Start) map.now text.now args.now store result.0) }
+{
+    match args {
+        Args::Init { store, master, .. } => init_file(system, start, store, map, text, master),
+        Args::Letters { master, .. } => {
+            match answer_letters(system.alloc(), reader, writer, master, map) {
+                Ok(()) => (Ok(()), None),
+                Err(fault) => (Err(Failure::Run(fault)), None),
+            }
+        }
+        Args::Stored { store, .. } => answer_file(system, start, store, map, text, reader, writer),
+        Args::Serve {
+            store,
+            port,
+            count,
+            ..
+        } => serve_file(system, start, store, map, text, *port, *count),
+        Args::Report { store, game, .. } => {
+            report_file(system, start, store, map, text, game, writer)
+        }
+        Args::Check { .. } => (check(system.alloc(), reader, writer, system, map), None),
+        Args::Explain { paper, .. } => (explain(system.alloc(), reader, writer, map, *paper), None),
+        Args::Version => (write_version(writer), None),
+    }
+}
+
+/// Does what the words ask for, of which the first is the program's own name, over the map of the file that is named, or the standard
+/// map: makes a desk in a store; answers the letters of the reader, from a fresh desk in memory or from a store's desk on; serves
+/// clients; writes a game's papers; checks the papers that the reader has, or explains one; or writes what the program is. The store is
+/// that of the file that is named, which held at first what `start` says; it is handed back where it was opened.
+///
+/// # Errors
+/// The first of: what is wrong with the words, with the map's file, with the map; and nothing is read or written. Else what is wrong
+/// with the store, the port, the game, the input or the output.
+pub fn do_as_asked<S: Start, R: Read, W: Write>(
+    system: &System<'_>,
+    start: S,
+    words: &[&str],
+    reader: &mut R,
+    writer: &mut W,
+) -> (Result<(), Failure>, Option<Stored<S>>)
+    ensures done { OnOk result.0 (IsDone STANDARD.now (each (λ w. w.now) words.entry.now)
+        (R.remaining reader.old) (R.remaining reader.new) (W.contents writer.old)
+        (W.contents writer.new)) }
+    ensures failed { IfErr result.0 (IsFailed STANDARD.now (each (λ w. w.now) words.entry.now)
+        (R.remaining reader.old) (R.remaining reader.new) (W.contents writer.old)
+        (W.contents writer.new)) }
+    ensures leaves { OnOk result.0 (IsAskedFor STANDARD.now (each (λ w. w.now) words.entry.now)
+        (λ a m. LeavesStore over_files (image_at S.Start) m (R.remaining reader.old)
+        (R.remaining reader.new) (W.contents writer.old) (W.contents writer.new) a result.1)) }
+    ensures tells { IfSome result.1 (λ store. IsAskedOver STANDARD.now
+        (each (λ w. w.now) words.entry.now)
+        (λ a m text. TellsStore over_files (image_at S.Start) m text a store result.0)) }
+    ensures lasts { IfSome result.1 (λ store. IsAskedOver STANDARD.now
+        (each (λ w. w.now) words.entry.now)
+        (λ a m text. LastsAs over_files (image_at S.Start) m text a store result.0)) }
+    ensures stops { IfErr result.0 (λ f. IfAsked STANDARD.now (each (λ w. w.now) words.entry.now) f
+        (λ a m. StopsStore over_files (image_at S.Start) m (R.remaining reader.old)
+        (R.remaining reader.new) (W.contents writer.old) (W.contents writer.new) a f result.1)) }
+{
+    let alloc = system.alloc();
+    match read_args(alloc, words) {
+        Err(fault) => (Err(Failure::Usage(fault)), None),
+        Ok(args) => match system.read_map(args.map()) {
+            Err(fault) => (Err(Failure::Map(fault)), None),
+            Ok((map, said)) => {
+                do_asked(system, start, &args, &map, text_said(&said), reader, writer)
+            }
+        },
+    }
+}
+
+/// Does what the words ask for, and closes the store's file.
+///
+/// # Errors
+/// Those of `do_as_asked`.
+pub fn run_as_asked<S: Start, R: Read, W: Write>(
+    system: &System<'_>,
+    start: S,
+    words: &[&str],
+    reader: &mut R,
+    writer: &mut W,
+) -> Result<(), Failure>
+    ensures done { OnOk result (IsDone STANDARD.now (each (λ w. w.now) words.entry.now)
+        (R.remaining reader.old) (R.remaining reader.new) (W.contents writer.old)
+        (W.contents writer.new)) }
+    ensures failed { IfErr result (IsFailed STANDARD.now (each (λ w. w.now) words.entry.now)
+        (R.remaining reader.old) (R.remaining reader.new) (W.contents writer.old)
+        (W.contents writer.new)) }
+{
+    let (outcome, store) = do_as_asked(system, start, words, reader, writer);
+    if let Some(store) = store {
+        close_file(store);
+    }
+    outcome
+}

@@ -1,4 +1,0 @@
-pub mod Adding
-pub mod Centres
-pub mod Owners
-pub mod Placing

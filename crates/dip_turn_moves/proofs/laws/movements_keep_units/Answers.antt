@@ -1,5 +1,0 @@
-use Rattle.dip_turn_moves.proofs.KeptLemmas as kept
-use Rattle.dip_turn_moves.proofs.laws.movements_keep_units.Goals as goal
-
-pub returns : goal.returns
-returns c = kept.movements_keep_units

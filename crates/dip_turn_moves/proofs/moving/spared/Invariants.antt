@@ -1,6 +1,0 @@
-use Rattle.std.proofs.Common.{◌≡◌, ◌++◌, drop, filter}
-use Rattle.dip_turn_moves.specs.Moving.{may_go}
-use Rattle.dip_turn_moves.proofs.moving.spared.Given as goal
-
-abbrev pub invariant-loop-dislodged : goal.invariant-loop-dislodged
-invariant-loop-dislodged l = l.spared.items ++ filter (may_go l.map l.board) (drop l.dislodged-index l.board.dislodged) ≡ filter (may_go l.map l.board) l.board.dislodged

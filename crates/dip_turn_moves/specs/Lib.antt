@@ -1,3 +1,0 @@
-pub mod Moving
-pub mod Outcomes
-pub mod Laws

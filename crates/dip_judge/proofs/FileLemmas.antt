@@ -27,8 +27,8 @@ use Rattle.dip_judge.specs.Asked.{Fails, IfAsked, IsAskedFor, IsFailed}
 use Rattle.dip_judge.specs.Files.{FromHeld, HasFaults, HeldDesk, IsFoundIn, LeavesStore, StopsStore, TellsOfFile, TellsStore, WasMadeFor, WasOpened, WasShutFor}
 use Rattle.dip_judge.specs.Lasting.{HeldLawful, Lasts, LastsAs, LastsFrom, LastsServing}
 use Rattle.dip_judge.specs.Stores.{TellsOfStore}
-use Rattle.dip_judge.specs.declared.failures.Failure.{Failure}
-use Rattle.dip_judge.specs.declared.failures.Failure.TheVariants.{Checking, Listen, Map, NoGame, NoMemory, Negative, Papers, Run, Serving, Store, Usage}
+use Rattle.dip_judge_system.specs.declared.failures.Failure.{Failure}
+use Rattle.dip_judge_system.specs.declared.failures.Failure.TheVariants.{Checking, Listen, Map, NoGame, NoMemory, Negative, Papers, Run, Serving, Store, Usage}
 
 module _ {D : Type 0} {g : disk.Ghosts D} (image : Image) (m : Chart) (first : Held (FileStore D g)) (opened : HasCleanDisk (file_state first) → IsOpened first)
     (found : HasCleanDisk (file_state first) → FindsIn image (file_state first)) where

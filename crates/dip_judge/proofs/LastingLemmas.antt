@@ -29,8 +29,8 @@ use Rattle.dip_desk_keeper.specs.declared.paper_faults.PaperFault.{PaperFault}
 use Rattle.dip_desk_keeper.specs.declared.paper_faults.PaperFault.TheVariants as paper
 use Rattle.dip_judge.specs.Lasting.{IsDamage, Lasts, LeavesLawful, SaysLawful}
 use Rattle.dip_judge.specs.Stores.{AnswersFrom, IsOfDisk, ServesFrom, ServesUpTo, StopsFrom}
-use Rattle.dip_judge.specs.declared.failures.Failure.{Failure}
-use Rattle.dip_judge.specs.declared.failures.Failure.TheVariants.{Papers, Run, Serving}
+use Rattle.dip_judge_system.specs.declared.failures.Failure.{Failure}
+use Rattle.dip_judge_system.specs.declared.failures.Failure.TheVariants.{Papers, Run, Serving}
 
 -- which faults say that rows are Damaged
 

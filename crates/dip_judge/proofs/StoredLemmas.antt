@@ -22,8 +22,8 @@ use Rattle.dip_store.proofs.Opened.{ends_held, held_by}
 use Rattle.dip_store.specs.declared.keeper.SqlKeeper.{SqlKeeper}
 use Rattle.dip_judge.specs.Stores.{AnswersFrom, BlamesDisk, IsOfDisk, ReadsUpTo, Reports, ServesFrom, ServesUpTo, StopsFrom, StopsIn, StopsReport, StopsServing}
 use Rattle.dip_http.specs.Serving.{Serves, ServesEach, ServesTo}
-use Rattle.dip_judge.specs.declared.failures.Failure.{Failure}
-use Rattle.dip_judge.specs.declared.failures.Failure.TheVariants.{Checking, Listen, Map, NoGame, NoMemory, Negative, Papers, Run, Serving, Store, Usage}
+use Rattle.dip_judge_system.specs.declared.failures.Failure.{Failure}
+use Rattle.dip_judge_system.specs.declared.failures.Failure.TheVariants.{Checking, Listen, Map, NoGame, NoMemory, Negative, Papers, Run, Serving, Store, Usage}
 
 -- an opened keeper is open
 pub is_open : {S : Type 0} (g : Ghosts S) (m : Chart) (s : State) (k : SqlKeeper S) → Opens g m s k → IsOpen m (book g) k

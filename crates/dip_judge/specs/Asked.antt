@@ -12,10 +12,10 @@ use Rattle.dip_judge_runs.specs.Runs.{IsReadToEnd}
 use Rattle.dip_judge_runs.specs.Fresh.{AnswersFresh, IsCutShort}
 use Rattle.dip_judge.specs.Stores.{IsIdle, IsReportFailure, IsServeFailure, ReadsUpTo}
 use Rattle.dip_check_runs.specs.Runs.{IsChecked, IsExplained, TellsIfGame}
-use Rattle.dip_judge.specs.Checking.{FailsCheck, FailsExplaining}
-use Rattle.dip_judge.specs.Version.{FailsVersion, version_text}
-use Rattle.dip_judge.specs.declared.failures.Failure.{Failure}
-use Rattle.dip_judge.specs.declared.failures.Failure.TheVariants.{Usage, Map, Store, Run}
+use Rattle.dip_judge_system.specs.Checking.{FailsCheck, FailsExplaining}
+use Rattle.dip_judge_system.specs.Version.{FailsVersion, version_text}
+use Rattle.dip_judge_system.specs.declared.failures.Failure.{Failure}
+use Rattle.dip_judge_system.specs.declared.failures.Failure.TheVariants.{Usage, Map, Store, Run}
 
 -- the words ask for this, which is fit, and the map is the one that they name
 abbrev pub IsAsked : List ℕ → List Text → Args → Chart → Type 0

@@ -14,10 +14,10 @@ use Rattle.dip_store.specs.Calls.{does_show, is_honest}
 use Rattle.dip_store.specs.Opening.{Holds, IsMadeForText, IsShutFor, Says, SaysText}
 use Rattle.dip_store.specs.StoreFault.{StoreFault}
 use Rattle.dip_judge_runs.specs.Fresh.{fresh_desk}
-use Rattle.dip_judge.specs.FileFaults.{IsFindFault, IsOpenFault}
+use Rattle.dip_judge_system.specs.FileFaults.{IsFindFault, IsOpenFault}
 use Rattle.dip_judge.specs.Stores.{AnswersFrom, Reports, ServesFrom, StopsFrom, StopsReport, StopsServing}
-use Rattle.dip_judge.specs.declared.failures.Failure.{Failure}
-use Rattle.dip_judge.specs.declared.failures.Failure.TheVariants.{Store}
+use Rattle.dip_judge_system.specs.declared.failures.Failure.{Failure}
+use Rattle.dip_judge_system.specs.declared.failures.Failure.TheVariants.{Store}
 
 -- the database is found in the file
 abbrev pub IsFoundIn : Image → Database → Type 0

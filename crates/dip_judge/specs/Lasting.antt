@@ -16,8 +16,8 @@ use Rattle.dip_store.specs.Calls.{is_honest}
 use Rattle.dip_store.specs.Opening.{AreOf, IsDesk, IsMadeForText, Says}
 use Rattle.dip_desk_keeper.specs.declared.paper_faults.PaperFault.TheVariants as paper
 use Rattle.dip_judge.specs.Files.{HasFaults, IsFoundIn}
-use Rattle.dip_judge.specs.declared.failures.Failure.{Failure}
-use Rattle.dip_judge.specs.declared.failures.Failure.TheVariants.{Papers, Run, Serving}
+use Rattle.dip_judge_system.specs.declared.failures.Failure.{Failure}
+use Rattle.dip_judge_system.specs.declared.failures.Failure.TheVariants.{Papers, Run, Serving}
 
 -- keepers wrote the database by the map of this text, and its rows say a lawful state
 abbrev pub SaysLawful : Chart → List ℕ → Database → Type 0

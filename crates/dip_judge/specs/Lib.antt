@@ -1,8 +1,5 @@
-pub mod Failures
-pub mod FileFaults
-pub mod Version
-pub mod Checking
 pub mod Stores
 pub mod Files
 pub mod Lasting
+pub mod Commands
 pub mod Asked

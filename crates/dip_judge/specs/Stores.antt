@@ -16,8 +16,8 @@ use Rattle.dip_judge_runs.specs.Runs.{AnswersAll, IsReadToEnd, IsReadWhole, Stop
 use Rattle.dip_judge_runs.specs.declared.run.RunFault.{RunFault}
 use Rattle.dip_judge_runs.specs.declared.run.RunFault.TheVariants as run
 use Rattle.dip_http.specs.Serving.{IsShut, Serves, TakesOne}
-use Rattle.dip_judge.specs.declared.failures.Failure.{Failure}
-use Rattle.dip_judge.specs.declared.failures.Failure.TheVariants.{Listen, NoGame, NoMemory, Papers, Run, Serving, Store}
+use Rattle.dip_judge_system.specs.declared.failures.Failure.{Failure}
+use Rattle.dip_judge_system.specs.declared.failures.Failure.TheVariants.{Listen, NoGame, NoMemory, Papers, Run, Serving, Store}
 
 -- what an answer over a store tells of its map: the store isn't opened, for such a reason; else it
 -- was made for the map of this text

@@ -6,17 +6,14 @@ ghost use Rattle.dip_judge.specs.Asked.{Fails, IfAsked, IsAskedFor, IsAskedOver,
 ghost use Rattle.dip_judge.specs.Files.{AnswersIn, AnswersUpTo, IfOpened, LeavesStore, MadeIn, ReportsIn, ServesIn, StopsReportIn, StopsServingIn, StopsStore, TellsOfFile, TellsStore, UnmadeIn, WasOpened};
 ghost use Rattle.dip_judge.specs.Lasting.{LastsAs, LastsIn, LastsServing, LeavesLawful};
 ghost use Rattle.dip_judge.specs.Stores.{IsReportFailure, IsServeFailure, ReadsInput};
-ghost use Rattle.dip_judge.specs.FileFaults.{IsFindFault, IsOpenFault};
+ghost use Rattle.dip_judge_system.specs.FileFaults.{IsFindFault, IsOpenFault};
 ghost use Rattle.dip_store.specs.Calls.{is_honest};
 ghost use Rattle.dip_store.specs.Opening.{SaysText};
 
-use crate::checking::{check, explain};
-use crate::failures::Failure;
 use crate::stored::{answer_stored, close_file, make_desk, report_stored, serve_stored};
-use crate::system::{Stored, System};
-use crate::version::write_version;
 use dip_desk_machine::new_desks_are_lawful;
 use dip_judge_runs::{answer_letters, text_said};
+use dip_judge_system::{Failure, Stored, System, check, explain, write_version};
 use dip_judge_words::{Args, read_args};
 use dip_map::Map;
 use dip_map_text::STANDARD;

@@ -1,10 +1,9 @@
 //! The program over what the system hands it.
 ghost use Rattle.std.specs.Prelude.{◌≡◌, ◌≤◌};
-ghost use Rattle.dip_judge.specs.Failures as failures;
+ghost use Rattle.dip_judge_system.specs.Failures as failures;
 
 use crate::asked::run_as_asked;
-use crate::failures::{Failure, status_of};
-use crate::system::System;
+use dip_judge_system::{Failure, System, status_of};
 use sqlite::Unknown;
 use std::{env, io};
 

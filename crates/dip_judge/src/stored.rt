@@ -1,19 +1,10 @@
 //! What is done over a store: a desk is made, letters are answered, clients served, a game's papers written out.
-ghost use Rattle.std.specs.Prelude.{◌≡◌, ◌⊎◌, IfErr, OnErr, OnOk};
-ghost use Rattle.sqlite.specs.Held.{state};
-ghost use Rattle.dip_desk_state.specs.State.{State};
-ghost use Rattle.dip_judge_runs.specs.Fresh.{fresh_desk};
-ghost use Rattle.dip_judge.specs.Lasting.{Lasts, LastsFrom};
-ghost use Rattle.dip_judge.specs.Stores.{AnswersFrom, IsReportFailure, IsServeFailure, ReadsInput, Reports, ServesFrom, StopsFrom, StopsReport, StopsServing, TellsOfStore};
-ghost use Rattle.dip_store.specs.Calls.{does_show, is_honest};
-ghost use Rattle.dip_store.specs.Causes.{has_faulted};
-ghost use Rattle.dip_store.specs.Opening.{Holds, IsDesk, IsNowOf, IsUnmadeBy, LeavesText, Says, SaysText};
+ghost use Rattle.dip_judge.specs.Commands.{AnswersStored, MakesDesk, ReportsStored, ServesStored};
 
-use crate::failures::Failure;
-use crate::system::{Stored, System};
 use dip_desk_machine::lawful_states_stay_lawful;
 use dip_http::{Routes, serve_all};
 use dip_judge_runs::run_file;
+use dip_judge_system::{Failure, Stored, System};
 use dip_letters::digest;
 use dip_map::Map;
 use dip_store::{SqlKeeper, StoreFault};
@@ -32,13 +23,7 @@ pub fn make_desk<S: Alter>(
     text: &str,
     master: &str,
 ) -> (Result<(), StoreFault>, Connection<S>)
-    ensures made { is_honest S.Store result.1
-        → OnOk result.0 (Holds S.Store map.now (fresh_desk master.now) result.1
-        × SaysText S.Store text.now result.1 × LeavesText S.Store text.now result.1) }
-    ensures unmade { IfErr result.0 (IsUnmadeBy S.Store store result.1) }
-    ensures same { does_show S.Store result.1 → OnErr result.0
-        ((state S.Store result.1).committed ≡ (state S.Store store).committed) }
-    ensures fair { does_show S.Store result.1 → is_honest S.Store store }
+    ensures { MakesDesk S.Store map.now text.now master.now store result.1 result.0 }
 {
     let digest = digest("desk", "master", master);
     match SqlKeeper::create(alloc, store, map, text, &digest) {
@@ -59,20 +44,8 @@ pub fn answer_stored<S: Alter, R: Read, W: Write>(
     reader: &mut R,
     writer: &mut W,
 ) -> (Result<(), Failure>, Connection<S>)
-    ensures done { is_honest S.Store result.1 → (s : State)
-        → Says map.now s (state S.Store store).now → OnOk result.0 (AnswersFrom S.Store map.now s
-        result.1 (R.remaining reader.old) (R.remaining reader.new) (W.contents writer.old)
-        (W.contents writer.new)) }
-    ensures stops { is_honest S.Store result.1 → (s : State) → IsDesk S.Store map.now s store
-        → IfErr result.0 (StopsFrom S.Store map.now (has_faulted S.Store store result.1)
-        (IsNowOf S.Store store) s result.1 (R.remaining reader.old) (R.remaining reader.new)
-        (W.contents writer.old) (W.contents writer.new)) }
-    ensures reads { ReadsInput (R.remaining reader.old) (R.remaining reader.new)
-        (W.contents writer.old) (W.contents writer.new) result.0 }
-    ensures tells { TellsOfStore S.Store map.now text.now store result.1 result.0 }
-    ensures lasts { LastsFrom S.Store map.now text.now store result.1
-        (Lasts S.Store map.now text.now result.1 result.0) }
-    ensures fair { is_honest S.Store result.1 → is_honest S.Store store }
+    ensures { AnswersStored S.Store map.now text.now store result.1 (R.remaining reader.old)
+        (R.remaining reader.new) (W.contents writer.old) (W.contents writer.new) result.0 }
 {
     lawful_states_stay_lawful(map);
     match SqlKeeper::open(alloc, store, map, text) {
@@ -96,18 +69,8 @@ pub fn report_stored<S: Alter, W: Write>(
     game: &str,
     writer: &mut W,
 ) -> (Result<(), Failure>, Connection<S>)
-    ensures done { is_honest S.Store result.1 → (s : State)
-        → Says map.now s (state S.Store store).now → OnOk result.0 (Reports game.now s
-        (W.contents writer.old) (W.contents writer.new) × Holds S.Store map.now s result.1) }
-    ensures stops { is_honest S.Store result.1 → (s : State) → IsDesk S.Store map.now s store
-        → IfErr result.0 (StopsReport S.Store map.now (has_faulted S.Store store result.1)
-        (IsNowOf S.Store store) game.now s result.1 (W.contents writer.old)
-        (W.contents writer.new)) }
-    ensures failed { IfErr result.0 IsReportFailure }
-    ensures tells { TellsOfStore S.Store map.now text.now store result.1 result.0 }
-    ensures lasts { LastsFrom S.Store map.now text.now store result.1
-        (Lasts S.Store map.now text.now result.1 result.0) }
-    ensures fair { is_honest S.Store result.1 → is_honest S.Store store }
+    ensures { ReportsStored S.Store map.now text.now game.now store result.1
+        (W.contents writer.old) (W.contents writer.new) result.0 }
 {
     match SqlKeeper::open(alloc, store, map, text) {
         Err((fault, store)) => (Err(Failure::Store(fault)), store),
@@ -132,17 +95,7 @@ pub(crate) fn serve_stored<S: Alter>(
     port: u16,
     count: u32,
 ) -> (Result<(), Failure>, Connection<S>)
-    ensures done { is_honest S.Store result.1 → (s : State)
-        → Says map.now s (state S.Store store).now → OnOk result.0 (ServesFrom S.Store map.now
-        (has_faulted S.Store store result.1) count s result.1) }
-    ensures stops { is_honest S.Store result.1 → (s : State) → IsDesk S.Store map.now s store
-        → IfErr result.0 (StopsServing S.Store map.now (has_faulted S.Store store result.1)
-        (IsNowOf S.Store store) count s result.1) }
-    ensures failed { IfErr result.0 IsServeFailure }
-    ensures tells { TellsOfStore S.Store map.now text.now store result.1 result.0 }
-    ensures lasts { LastsFrom S.Store map.now text.now store result.1
-        (Lasts S.Store map.now text.now result.1 result.0 ⊎ has_faulted S.Store store result.1) }
-    ensures fair { is_honest S.Store result.1 → is_honest S.Store store }
+    ensures { ServesStored S.Store map.now text.now count store result.1 result.0 }
 {
     let alloc = system.alloc();
     lawful_states_stay_lawful(map);

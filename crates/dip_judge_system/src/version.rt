@@ -1,7 +1,7 @@
 //! What the program is.
 ghost use Rattle.std.specs.Prelude.{IfErr, OnOk};
 ghost use Rattle.std.specs.Io.KnownBytes.{Appends};
-ghost use Rattle.dip_judge.specs.Version.{FailsVersion, version_text};
+ghost use Rattle.dip_judge_system.specs.Version.{FailsVersion, version_text};
 
 use crate::failures::Failure;
 use dip_judge_runs::RunFault;

@@ -1,8 +1,8 @@
 //! Why the program ends early: its exit status, and what it prints on standard error.
 ghost use Rattle.std.specs.Prelude.{◌≡◌, ◌≤◌};
 ghost use Rattle.dip_judge_words.specs.declared.faults.UsageFault.TheVariants.{Memory as no_words};
-ghost use Rattle.dip_judge.specs.Failures.{exit_status, status_of, words_fault};
-ghost use Rattle.dip_judge.specs.declared.failures.Failure.TheVariants.{Usage};
+ghost use Rattle.dip_judge_system.specs.Failures.{exit_status, status_of, words_fault};
+ghost use Rattle.dip_judge_system.specs.declared.failures.Failure.TheVariants.{Usage};
 ghost use Rattle.std.specs.IoError.{error_kind};
 
 use dip_check_runs::CheckFault;
@@ -83,7 +83,7 @@ pub fn status_of(outcome: &Result<(), Failure>) -> u8
 }
 
 impl fmt::Display for Failure {
-    ghost use Rattle.dip_judge.specs.Failures.{printed};
+    ghost use Rattle.dip_judge_system.specs.Failures.{printed};
 
     ghost output = { λ f. printed f };
 

@@ -13,8 +13,8 @@ use Rattle.dip_judge_runs.specs.Names.{no_map_name, run_name}
 use Rattle.dip_judge_runs.specs.declared.map_file.NoMap.TheVariants as no_map
 use Rattle.dip_judge_runs.specs.declared.run.RunFault.TheVariants as run
 use Rattle.dip_store_schema.specs.Faults.{store_fault_name}
-use Rattle.dip_judge.specs.declared.failures.Failure.{Failure}
-use Rattle.dip_judge.specs.declared.failures.Failure.TheVariants.{Usage, Map, Store, NoMemory, Listen, Run, Serving, NoGame, Papers, Checking, Negative}
+use Rattle.dip_judge_system.specs.declared.failures.Failure.{Failure}
+use Rattle.dip_judge_system.specs.declared.failures.Failure.TheVariants.{Usage, Map, Store, NoMemory, Listen, Run, Serving, NoGame, Papers, Checking, Negative}
 
 -- the exit status: 1 where the answer is no, 2 for the arguments, 3 for the map, 4 for the store, its keeper and a game that isn't there, 5 for a map's file, the
 -- port, input, output or other want of memory

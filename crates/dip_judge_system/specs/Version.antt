@@ -2,8 +2,8 @@
 use Rattle.std.specs.Prelude.{ℕ, List, Option, codes, take}
 use Rattle.std.specs.Io.KnownBytes.{Appends}
 use Rattle.dip_judge_runs.specs.declared.run.RunFault.TheVariants.{Write}
-use Rattle.dip_judge.specs.declared.failures.Failure.{Failure}
-use Rattle.dip_judge.specs.declared.failures.Failure.TheVariants.{Run}
+use Rattle.dip_judge_system.specs.declared.failures.Failure.{Failure}
+use Rattle.dip_judge_system.specs.declared.failures.Failure.TheVariants.{Run}
 
 -- its version, its standard map by the SHA-256 of its text, and the kit's logic by which it was proved
 abbrev pub version_text : List ℕ

@@ -1,7 +1,7 @@
 //! Papers that are checked, or explained.
 ghost use Rattle.std.specs.Prelude.{IfErr, OnOk, true};
 ghost use Rattle.dip_check_runs.specs.Runs.{IsChecked, IsExplained, TellsIfGame};
-ghost use Rattle.dip_judge.specs.Checking.{FailsCheck, FailsExplaining};
+ghost use Rattle.dip_judge_system.specs.Checking.{FailsCheck, FailsExplaining};
 
 use crate::failures::Failure;
 use dip_check_runs::{Progress, check_papers, explain_paper};

@@ -4,8 +4,8 @@ ghost use Rattle.sqlite.specs.Files.{IsOpened, file_state};
 ghost use Rattle.sqlite.specs.Start.{FindsIn};
 ghost use Rattle.sqlite.specs.State.{HasCleanDisk};
 ghost use Rattle.sqlite.specs.WalFiles.{image_at};
-ghost use Rattle.dip_judge.specs.Failures.{listening_text, progress_text};
-ghost use Rattle.dip_judge.specs.FileFaults.{IsFindFault, IsOpenFault};
+ghost use Rattle.dip_judge_system.specs.Failures.{listening_text, progress_text};
+ghost use Rattle.dip_judge_system.specs.FileFaults.{IsFindFault, IsOpenFault};
 ghost use Rattle.dip_judge_runs.specs.MapFiles as said;
 ghost use Rattle.dip_judge_runs.specs.MapFiles.{IsMapOf, IsNoMapOf};
 

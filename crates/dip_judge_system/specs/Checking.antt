@@ -2,8 +2,8 @@
 use Rattle.std.specs.Prelude.{ℕ, List, Option, false}
 use Rattle.dip_map.specs.Charts.{Chart}
 use Rattle.dip_check_runs.specs.Runs.{EndsBegun, EndsEarly, IsChecked, IsExplained, TellsIfGame}
-use Rattle.dip_judge.specs.declared.failures.Failure.{Failure}
-use Rattle.dip_judge.specs.declared.failures.Failure.TheVariants.{Checking, Negative}
+use Rattle.dip_judge_system.specs.declared.failures.Failure.{Failure}
+use Rattle.dip_judge_system.specs.declared.failures.Failure.TheVariants.{Checking, Negative}
 
 -- papers weren't found right, which was told, and they are no game's; or it couldn't be told
 abbrev pub FailsCheck : Chart → Option (List ℕ) → Option (List ℕ) → Option (List ℕ) → Option (List ℕ) → Failure → Type 0

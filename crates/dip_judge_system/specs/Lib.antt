@@ -1,0 +1,4 @@
+pub mod Failures
+pub mod FileFaults
+pub mod Version
+pub mod Checking

@@ -7,7 +7,7 @@ use Rattle.sqlite.specs.State.{State, Shown}
 use Rattle.dip_store_sql.specs.Asking.{by_one, by_two, by_three, by_first}
 use Rattle.dip_store_sql.specs.Statements as text
 use Rattle.dip_store_sql.proofs.Texts as means
-use Rattle.dip_store_tables.specs.Tables.{is_ballot, is_choice_in, is_named, is_seat, is_seat_in, is_unit_in, is_centre_in, is_pending}
+use Rattle.dip_store_rows.specs.Tables.{is_ballot, is_choice_in, is_named, is_seat, is_seat_in, is_unit_in, is_centre_in, is_pending}
 use Rattle.dip_store_sql.specs.Rows.{tables_of, put_desk, take_desk, put_game, take_game, put_seat, take_seat, put_unit, take_unit, put_centre, take_centre, put_pending, take_pending, put_box, take_box, put_paper, take_paper, put_ballot, take_ballot, put_choice, take_choice}
 use Rattle.dip_store_sql.specs.Good.{IsGood}
 use Rattle.dip_store_sql.specs.Old.{WasGood, old_tables_of}

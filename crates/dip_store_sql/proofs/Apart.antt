@@ -9,8 +9,8 @@ use Rattle.dip_store_sql.specs.Recorded.{AtMostOne}
 use Rattle.dip_store_sql.proofs.Keyed.{ballots_differ, boxes_differ, choices_differ, desk_differ, games_differ, papers_differ, seats_differ}
 use Rattle.dip_store_sql.proofs.Keys.{at_most_one}
 use Rattle.dip_store_sql.specs.Schema.{our_schema}
-use Rattle.dip_store_tables.specs.Tables.{DeskRow, SeatRow, BoxRow, PaperRow, BallotRow, is_ballot, is_choice_in, is_named, is_seat}
-use Rattle.dip_store_tables.specs.Coding.{same_name, same_seat}
+use Rattle.dip_store_rows.specs.Tables.{DeskRow, SeatRow, BoxRow, PaperRow, BallotRow, is_ballot, is_choice_in, is_named, is_seat}
+use Rattle.dip_store_rows.specs.Apart.{same_name, same_seat}
 use Rattle.dip_store_sql.specs.Rows.{take_desk, take_game, take_seat, take_box, take_paper, take_ballot, take_choice}
 use Rattle.dip_store_sql.specs.Good.{IsGood}
 use Rattle.dip_store_sql.specs.Keys.{Differ, same_ballot, same_choice, same_desk, same_item, same_paper}

@@ -3,8 +3,8 @@ use Rattle.std.proofs.Common.{◌≡◌, pos, refl}
 use Rattle.sqlite.specs.Cast.{cast_all}
 use Rattle.dip_store_sql.proofs.Changes.{cast_int}
 use Rattle.dip_store_sql.specs.Schema.{desk_table, game_table, seat_table, unit_table, centre_table, pending_table, box_table, paper_table, ballot_table, choice_table}
-use Rattle.dip_store_tables.specs.Boards.{UnitRow, CentreRow}
-use Rattle.dip_store_tables.specs.Tables.{DeskRow, GameRow, SeatRow, PendingRow, BoxRow, PaperRow, BallotRow, ChoiceRow}
+use Rattle.dip_store_rows.specs.Tables.{UnitRow, CentreRow}
+use Rattle.dip_store_rows.specs.Tables.{DeskRow, GameRow, SeatRow, PendingRow, BoxRow, PaperRow, BallotRow, ChoiceRow}
 use Rattle.dip_store_sql.specs.Rows.{put_desk, put_game, put_seat, put_unit, put_centre, put_pending, put_box, put_paper, put_ballot, put_choice}
 
 pub cast_desk : (d : DeskRow) → cast_all desk_table.columns (put_desk d) ≡ put_desk d

@@ -17,8 +17,8 @@ use Rattle.sqlite_rules.specs.Calls.{ids_of}
 use Rattle.sqlite.specs.Rowids.TheVariants.{Chosen, Given}
 use Rattle.sqlite.specs.Effect.{Database}
 use Rattle.sqlite.proofs.Callers.{one_permutation}
-use Rattle.dip_store_tables.specs.Lists.{update_where, delete_where}
-use Rattle.dip_store_tables.proofs.ListLemmas.{all_weaker, map-map, filter-map}
+use Rattle.dip_store_rows.specs.Lists.{update_where, delete_where}
+use Rattle.dip_store_rows.proofs.ListLemmas.{all_weaker, map-map, filter-map}
 use Rattle.dip_store_sql.specs.Recorded.{IsRising, AtMostOne}
 use Rattle.dip_store_sql.specs.Queries.{passes}
 use Rattle.dip_store_sql.specs.Writes.{Edits}

@@ -10,8 +10,8 @@ use Rattle.sqlite.specs.Tree.{rowid, put_row, without_rowid, has_rowid}
 use Rattle.sqlite_trees.proofs.TreeLemmas.{IsTable-put_row, all-put_row}
 use Rattle.sqlite.specs.Edit.{id_in, next_rowid, numbered, put_all, without_all}
 use Rattle.sqlite.specs.Rowids.TheVariants.{Chosen}
-use Rattle.dip_store_tables.specs.Lists.{update_where, delete_where}
-use Rattle.dip_store_tables.proofs.ListLemmas.{all_weaker, all-filter, ascending-filter, filter-map}
+use Rattle.dip_store_rows.specs.Lists.{update_where, delete_where}
+use Rattle.dip_store_rows.proofs.ListLemmas.{all_weaker, all-filter, ascending-filter, filter-map}
 use Rattle.dip_store_sql.specs.Recorded.{IsRising}
 use Rattle.dip_store_sql.proofs.Places.{HaveIds, id_of, ids_in, added_last, all_taken_out, none_change, of_found, put_back}
 

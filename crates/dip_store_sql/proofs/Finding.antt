@@ -10,8 +10,8 @@ use Rattle.sqlite.specs.Tree.{Trees, rowid, IsTable, IsAscending}
 use Rattle.sqlite.specs.Term.{Term, col, eval_all}
 use Rattle.sqlite.specs.Edit.{id_in}
 use Rattle.sqlite.proofs.Callers.{one_permutation}
-use Rattle.dip_store_tables.proofs.ListLemmas.{map-map, all_weaker, all-filter, filter-map, ascending-map, ascending_weaker, ascending-filter}
-use Rattle.dip_store_tables.proofs.SortLemmas.{sorted_unique}
+use Rattle.dip_store_rows.proofs.ListLemmas.{map-map, all_weaker, all-filter, filter-map, ascending-map, ascending_weaker, ascending-filter}
+use Rattle.dip_store_rows.proofs.SortLemmas.{sorted_unique}
 use Rattle.sqlite_sql.proofs.QueryLemmas.{output_cmp_total}
 use Rattle.sqlite.specs.Query.{Query, IsAnswerAs, output, Output, output_cmp}
 use Rattle.sqlite.specs.Program.{overlay}

@@ -3,7 +3,7 @@ use Rattle.std.proofs.Common.{◌≡◌, ℕ, List, [], Ok, Err, IsTrue, refl, s
 use Rattle.sqlite.specs.Order.{Row}
 use Rattle.sqlite.specs.State.{State, Executes, ExecutesInside}
 use Rattle.sqlite.specs.declared.error.Error.{Error}
-use Rattle.dip_store_tables.specs.Tables.{Tables}
+use Rattle.dip_store_rows.specs.Tables.{Tables}
 use Rattle.dip_store_sql.specs.Causes.{Faulted, IsCaused}
 use Rattle.dip_store_sql.specs.Creating.{create_ballot, create_choice}
 use Rattle.dip_store_sql.specs.Good.{IsGood}

@@ -4,7 +4,7 @@ use Rattle.sqlite.specs.declared.error.Error.{Error}
 use Rattle.sqlite.specs.declared.error.Error.TheVariants.{SqliteFailure}
 use Rattle.sqlite.specs.declared.error.ErrorCode.TheVariants.{OutOfMemory}
 use Rattle.sqlite.specs.State.{State, HasCleanDisk}
-use Rattle.dip_store_tables.specs.Tables.{Tables}
+use Rattle.dip_store_rows.specs.Tables.{Tables}
 use Rattle.dip_store_sql.specs.Causes.{Faulted}
 use Rattle.dip_store_sql.specs.Refusals.{is_outage}
 use Rattle.dip_store_sql.specs.Rows.{tables_of}

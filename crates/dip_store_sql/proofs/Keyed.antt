@@ -12,7 +12,7 @@ use Rattle.sqlite_catalog.specs.Listing.{IsSound}
 use Rattle.dip_store_sql.proofs.Keys.{apart_in}
 use Rattle.dip_store_sql.proofs.Tests.{text_test, number_test, and_all, and_both, and_true}
 use Rattle.dip_store_sql.specs.Schema.{our_schema, desk_table, game_table, seat_table, unit_table, centre_table, pending_table, box_table, paper_table, ballot_table, choice_table}
-use Rattle.dip_store_tables.specs.Coding.{AreApart, same_name, same_seat}
+use Rattle.dip_store_rows.specs.Apart.{AreApart, same_name, same_seat}
 use Rattle.dip_store_sql.specs.Good.{IsGood}
 use Rattle.dip_store_sql.specs.Recorded.{IsRising}
 use Rattle.dip_store_sql.specs.Rows.{tables_of, put_desk, take_desk, put_game, take_game, put_seat, take_seat, put_unit, take_unit, put_centre, take_centre, put_pending, take_pending, put_box, take_box, put_paper, take_paper, put_ballot, take_ballot, put_choice, take_choice}

@@ -11,7 +11,7 @@ use Rattle.sqlite.specs.Table.{Table}
 use Rattle.sqlite.specs.Schema.{Schema}
 use Rattle.sqlite_value.specs.declared.keys.Order.{Order}
 use Rattle.sqlite_schema.specs.Rules.{agree, clashes, differ}
-use Rattle.dip_store_tables.proofs.ListLemmas.{all_weaker}
+use Rattle.dip_store_rows.proofs.ListLemmas.{all_weaker}
 use Rattle.sqlite_value.specs.Keys.{plain}
 use Rattle.sqlite_rules.specs.Lists.{Has}
 use Rattle.sqlite_catalog.specs.Listing.{IsSound}

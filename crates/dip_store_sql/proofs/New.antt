@@ -5,7 +5,7 @@ use Rattle.sqlite.specs.Effect.{Database, IsDatabase}
 use Rattle.dip_store_sql.specs.NewTables.{IsBare}
 use Rattle.dip_store_sql.specs.Recorded.{IsRising}
 use Rattle.dip_store_sql.specs.Schema.{our_schema}
-use Rattle.dip_store_tables.specs.Writing.{new_tables}
+use Rattle.dip_store_rows.specs.Made.{new_tables}
 use Rattle.dip_store_sql.specs.Rows.{tables_of, put_desk, take_desk, put_game, take_game, put_seat, take_seat, put_unit, take_unit, put_centre, take_centre, put_pending, take_pending, put_box, take_box, put_paper, take_paper, put_ballot, take_ballot, put_choice, take_choice}
 use Rattle.dip_store_sql.specs.Good.{IsGood}
 use Rattle.dip_store_sql.specs.TablesAfter.{no_tables, with_desk, new_desk}

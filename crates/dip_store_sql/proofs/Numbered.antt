@@ -2,7 +2,7 @@
 use Rattle.std.proofs.Common.{◌≡◌, inl, inr, ℕ, ◌==◌, ◌&&◌, List, [], ◌∷◌, filter, Bool, true, false, bytes_eq, refl}
 use Rattle.std.specs.List.{find}
 use Rattle.std.proofs.lemmas.Bool.{cases_Bool}
-use Rattle.dip_store_tables.specs.Tables.{BoxRow, PaperRow, is_box, is_paper_in}
+use Rattle.dip_store_rows.specs.Tables.{BoxRow, PaperRow, is_box, is_paper_in}
 use Rattle.dip_store_sql.specs.Showing.{is_item, is_numbered}
 
 find_in : {A : Type 0} (p q r : A → Bool) → ((x : A) → r x ≡ (p x && q x)) → (xs : List A) → find r xs ≡ find q (filter p xs)

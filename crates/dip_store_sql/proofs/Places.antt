@@ -12,10 +12,10 @@ use Rattle.sqlite.specs.Order.{Row, value_cmp}
 use Rattle.sqlite_value.proofs.OrderLemmas.{value_cmp_total, value_cmp-Int}
 use Rattle.sqlite.specs.Tree.{rowid, put_row, without_rowid, has_rowid, IsTable}
 use Rattle.sqlite.specs.Edit.{id_in, next_rowid, without_all}
-use Rattle.dip_store_tables.specs.Keyed.{IsKeyedBy}
-use Rattle.dip_store_tables.specs.Lists.{update_where, delete_where}
-use Rattle.dip_store_tables.proofs.KeyedLemmas.{above_all, Less-from_lt, lt_from_Less}
-use Rattle.dip_store_tables.proofs.ListLemmas.{all_of, all-filter, filter_all, filter_same}
+use Rattle.dip_store_rows.specs.Keyed.{IsKeyedBy}
+use Rattle.dip_store_rows.specs.Lists.{update_where, delete_where}
+use Rattle.dip_store_rows.proofs.KeyedLemmas.{above_all, Less-from_lt, lt_from_Less}
+use Rattle.dip_store_rows.proofs.ListLemmas.{all_of, all-filter, filter_all, filter_same}
 
 -- each rowid is a whole number
 abbrev pub HaveIds : List Row → Type 0

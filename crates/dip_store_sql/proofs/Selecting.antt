@@ -13,7 +13,7 @@ use Rattle.dip_store_sql.proofs.Reading.{row_same, none_same, err_undone, row_op
 use Rattle.sqlite.specs.Effect.{Database}
 use Rattle.sqlite.specs.Schema.{Schema}
 use Rattle.dip_store_sql.specs.Schema.{our_schema}
-use Rattle.dip_store_tables.specs.Counting.{AreCounted}
+use Rattle.dip_store_rows.specs.Counted.{AreCounted}
 use Rattle.dip_store_sql.specs.Rows.{tables_of}
 use Rattle.dip_store_sql.specs.Good.{IsGood}
 use Rattle.dip_store_sql.specs.Calls.{IsKept, SelectsFrom, WasKept, is_honest, does_show}

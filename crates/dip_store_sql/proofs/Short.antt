@@ -15,7 +15,7 @@ use Rattle.sqlite_schema.specs.declared.schema.Index.{Index}
 use Rattle.sqlite_schema.specs.Rules.{index_reals, table_reals}
 use Rattle.sqlite_sql.specs.Catalog.{entry_of}
 use Rattle.sqlite_trees.specs.View.{IsStorable}
-use Rattle.dip_store_tables.specs.Tables.{BallotRow, ChoiceRow, DeskRow, SeatRow}
+use Rattle.dip_store_rows.specs.Tables.{BallotRow, ChoiceRow, DeskRow, SeatRow}
 use Rattle.dip_store_sql.specs.Rows.{put_ballot, put_choice, put_desk, put_seat}
 use Rattle.dip_store_sql.specs.Schema.{our_schema, ballot_table, choice_table, desk_table, seat_table}
 use Rattle.dip_store_sql.specs.Storing.{CanStand, IsShortBallot, IsShortDesk, IsShortSeat}

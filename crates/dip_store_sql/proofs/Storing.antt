@@ -1,7 +1,7 @@
 -- Where the rows stand that a statement puts into a table, and that the other tables keep theirs.
 use Rattle.std.proofs.Common.{◌≡◌, ℕ, [], ◌∷◌, ◌++◌, Ok, refl}
 use Rattle.sqlite.specs.State.{State, Executes}
-use Rattle.dip_store_tables.specs.Tables.{BallotRow, ChoiceRow}
+use Rattle.dip_store_rows.specs.Tables.{BallotRow, ChoiceRow}
 use Rattle.dip_store_sql.specs.Asking.{by_first}
 use Rattle.dip_store_sql.specs.Good.{IsGood}
 use Rattle.dip_store_sql.specs.Rows.{put_ballot, put_choice, take_ballot, take_choice}

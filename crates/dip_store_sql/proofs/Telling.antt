@@ -6,8 +6,8 @@ use Rattle.sqlite.specs.Order.{Row}
 use Rattle.dip_store_sql.specs.Queries.{passes}
 use Rattle.dip_store_sql.proofs.Tests.{and_all, and_both, and_true, number_test, text_test}
 use Rattle.dip_store_sql.specs.Asking.{by_one, by_two, by_three, by_first}
-use Rattle.dip_store_tables.specs.Boards.{UnitRow, CentreRow}
-use Rattle.dip_store_tables.specs.Tables.{DeskRow, GameRow, SeatRow, PendingRow, BoxRow, PaperRow, BallotRow, ChoiceRow, is_ballot_in, is_choice_in, is_ballot, is_seat_in, is_unit_in, is_centre_in, is_pending_in, is_box_in, is_paper_in, is_named, is_seat, is_pending}
+use Rattle.dip_store_rows.specs.Tables.{UnitRow, CentreRow}
+use Rattle.dip_store_rows.specs.Tables.{DeskRow, GameRow, SeatRow, PendingRow, BoxRow, PaperRow, BallotRow, ChoiceRow, is_ballot_in, is_choice_in, is_ballot, is_seat_in, is_unit_in, is_centre_in, is_pending_in, is_box_in, is_paper_in, is_named, is_seat, is_pending}
 use Rattle.dip_store_sql.specs.Rows.{put_desk, put_game, put_seat, put_unit, put_centre, put_pending, put_box, put_paper, put_ballot, put_choice}
 use Rattle.dip_store_sql.specs.Showing.{is_item, is_numbered}
 use Rattle.dip_store_sql.specs.TablesAfter.{is_first}

@@ -7,7 +7,7 @@ use Rattle.sqlite.specs.declared.types.Value.{Value}
 use Rattle.sqlite.specs.declared.types.Value.TheVariants.{Text as Words}
 use Rattle.sqlite.specs.Order.{Row, column}
 use Rattle.sqlite.specs.Reading.{IsReadError}
-use Rattle.dip_store_tables.specs.Legible.{IsText}
+use Rattle.dip_store_rows.specs.Texts.{IsText}
 use Rattle.dip_store_sql.specs.Causes.{IsCaused}
 use Rattle.dip_store_sql.specs.Refusals.{IsBlamed, is_outage}
 use Rattle.dip_store_sql.specs.Values.{HasText}

@@ -22,8 +22,8 @@ use Rattle.sqlite.proofs.Callers.{one_permutation}
 use Rattle.sqlite_schema.specs.declared.schema.Keys.TheVariants.{Enforced}
 use Rattle.sqlite_schema.specs.declared.schema.Constraint.TheVariants.{Unique}
 use Rattle.sqlite_schema.specs.Rules.{Keeps}
-use Rattle.dip_store_tables.specs.Lists.{update_where, delete_where}
-use Rattle.dip_store_tables.proofs.ListLemmas.{all_weaker, map-map, filter-map}
+use Rattle.dip_store_rows.specs.Lists.{update_where, delete_where}
+use Rattle.dip_store_rows.proofs.ListLemmas.{all_weaker, map-map, filter-map}
 use Rattle.dip_store_sql.specs.Recorded.{IsRising, AtMostOne}
 use Rattle.dip_store_sql.specs.Queries.{passes}
 use Rattle.dip_store_sql.proofs.Changes.{cast_int, each_cast, none_in, nothing_in, one_in}

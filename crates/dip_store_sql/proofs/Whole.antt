@@ -21,8 +21,8 @@ use Rattle.sqlite.specs.Term.{Term, eval_all}
 use Rattle.sqlite.specs.Cast.{cast_all, cast_row}
 use Rattle.sqlite.specs.Table.{Table}
 use Rattle.sqlite.specs.View.{is_int}
-use Rattle.dip_store_tables.proofs.ListLemmas.{all_both, all_map, all_of, all_weaker, ascending-map, filter_all, filter_none}
-use Rattle.dip_store_tables.proofs.SortLemmas.{sorted_unique}
+use Rattle.dip_store_rows.proofs.ListLemmas.{all_both, all_map, all_of, all_weaker, ascending-map, filter_all, filter_none}
+use Rattle.dip_store_rows.proofs.SortLemmas.{sorted_unique}
 use Rattle.dip_store_sql.specs.Queries.{passes}
 use Rattle.dip_store_sql.specs.Recorded.{IsRising}
 use Rattle.dip_store_sql.proofs.Changes.{cast_int}

@@ -7,8 +7,8 @@ use Rattle.sqlite.specs.Held.{Held, state}
 use Rattle.sqlite.specs.Order.{Row}
 use Rattle.sqlite.specs.State.{State, HasCleanDisk, Survives, KeepsCommit}
 use Rattle.sqlite.specs.declared.error.Error.{Error}
-use Rattle.dip_store_tables.specs.Tables.{Tables}
-use Rattle.dip_store_tables.specs.Counting.{AreCounted}
+use Rattle.dip_store_rows.specs.Tables.{Tables}
+use Rattle.dip_store_rows.specs.Counted.{AreCounted}
 use Rattle.dip_store_sql.specs.Rows.{tables_of}
 use Rattle.dip_store_sql.specs.Good.{IsGood}
 use Rattle.dip_store_sql.specs.Old.{WasGood, old_tables_of}

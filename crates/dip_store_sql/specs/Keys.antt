@@ -1,9 +1,9 @@
 -- The keys of the ten tables: no two rows of a table agree on its key.
 use Rattle.std.specs.Prelude.{◌≡◌, ◌==◌, ◌&&◌, Bool, false, List, bytes_eq}
 use Rattle.sqlite.specs.Tree.{IsAscending}
-use Rattle.dip_store_tables.specs.Boards.{UnitRow, CentreRow}
-use Rattle.dip_store_tables.specs.Coding.{same_name, same_seat}
-use Rattle.dip_store_tables.specs.Tables.{DeskRow, PendingRow, BoxRow, PaperRow, BallotRow, ChoiceRow, Tables}
+use Rattle.dip_store_rows.specs.Tables.{UnitRow, CentreRow}
+use Rattle.dip_store_rows.specs.Apart.{same_name, same_seat}
+use Rattle.dip_store_rows.specs.Tables.{DeskRow, PendingRow, BoxRow, PaperRow, BallotRow, ChoiceRow, Tables}
 
 abbrev pub same_desk : DeskRow → DeskRow → Bool
 same_desk a b = a.id == b.id

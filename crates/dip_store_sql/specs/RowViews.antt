@@ -1,8 +1,7 @@
 -- What the rows that are handed over say, without where they lie in memory.
 use Rattle.std.specs.Prelude.{ℕ, List}
-use Rattle.dip_store_tables.specs.Boards as boards
-use Rattle.dip_store_tables.specs.Tables as tables
-use Rattle.dip_store_tables.specs.Writing.{number_of}
+use Rattle.dip_store_rows.specs.Tables as tables
+use Rattle.dip_store_rows.specs.Made.{number_of}
 use Rattle.dip_store_sql.specs.TablesAfter as after
 use Rattle.dip_store_sql.specs.TablesAfter.{desk_with, seat_with}
 use Rattle.dip_store_sql.specs.declared.rows.GameRow.{GameRow}
@@ -25,7 +24,7 @@ game g = record {
   standoff = g.standoff.now;
 }
 
-abbrev pub unit : UnitRow → boards.UnitRow
+abbrev pub unit : UnitRow → tables.UnitRow
 unit u = record {
   game = u.game.now;
   province = u.province.now;

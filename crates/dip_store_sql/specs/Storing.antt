@@ -10,8 +10,8 @@ use Rattle.sqlite.specs.Schema.{Schema}
 use Rattle.sqlite.specs.State.{State, HasCleanDisk}
 use Rattle.sqlite.specs.Table.{Table}
 use Rattle.sqlite.specs.Tree.{Trees, rowid}
-use Rattle.dip_store_tables.specs.Renewing.{second, voteless}
-use Rattle.dip_store_tables.specs.Tables.{BallotRow, DeskRow, SeatRow, Tables}
+use Rattle.dip_store_rows.specs.Made.{second, voteless}
+use Rattle.dip_store_rows.specs.Tables.{BallotRow, DeskRow, SeatRow, Tables}
 use Rattle.dip_store_sql.specs.Causes.{Faulted, IsCaused}
 use Rattle.dip_store_sql.specs.Rows.{put_desk, put_seat, tables_of, take_desk, take_seat}
 use Rattle.dip_store_sql.specs.Schema.{our_schema}

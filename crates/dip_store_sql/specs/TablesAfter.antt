@@ -1,8 +1,8 @@
 -- What the statements make of the tables.
 use Rattle.std.specs.Prelude.{ℕ, ◌==◌, Bool, List, [], ◌∷◌, ◌++◌, map}
-use Rattle.dip_store_tables.specs.Lists.{update_where, delete_where}
-use Rattle.dip_store_tables.specs.Boards.{UnitRow, CentreRow}
-use Rattle.dip_store_tables.specs.Tables.{DeskRow, GameRow, SeatRow, PendingRow, BoxRow, PaperRow, BallotRow, ChoiceRow, Tables, is_seat_in, is_unit_in, is_centre_in, is_pending_in, is_box_in, is_paper_in, is_ballot_in, is_choice_in, is_named, is_seat, is_pending, is_ballot}
+use Rattle.dip_store_rows.specs.Lists.{update_where, delete_where}
+use Rattle.dip_store_rows.specs.Tables.{UnitRow, CentreRow}
+use Rattle.dip_store_rows.specs.Tables.{DeskRow, GameRow, SeatRow, PendingRow, BoxRow, PaperRow, BallotRow, ChoiceRow, Tables, is_seat_in, is_unit_in, is_centre_in, is_pending_in, is_box_in, is_paper_in, is_ballot_in, is_choice_in, is_named, is_seat, is_pending, is_ballot}
 
 -- a record after the others
 abbrev pub with_desk : DeskRow → Tables → Tables

@@ -8,7 +8,7 @@ ghost use Rattle.dip_store_sql.specs.Schema.{ballot_table, choice_table};
 ghost use Rattle.dip_store_sql.specs.Storing.{StoresBehind, next_row};
 ghost use Rattle.dip_store_sql.specs.Transactions.{Does, FailsOutside};
 ghost use Rattle.dip_store_sql.specs.RowViews as rows;
-ghost use Rattle.dip_store_tables.specs.Writing.{choice_row};
+ghost use Rattle.dip_store_rows.specs.Made.{choice_row};
 
 use crate::rows::{GameRow, ItemRow, OrderRow, UnitRow};
 use crate::ticks::tick_of;

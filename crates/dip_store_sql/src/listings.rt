@@ -1,6 +1,6 @@
 //! Queries of the rows of a game, of a seat, or of a store of version 1, in the order in which they were put in.
 ghost use Rattle.std.specs.Prelude.{◌≡◌, IfErr, IfOk, filter, map};
-ghost use Rattle.dip_store_tables.specs.Tables.{is_centre_in, is_pending, is_seat_in, is_unit_in};
+ghost use Rattle.dip_store_rows.specs.Tables.{is_centre_in, is_pending, is_seat_in, is_unit_in};
 ghost use Rattle.dip_store_sql.specs.Calls.{IsKept, Selects, SelectsFrom, WasKept, does_show, is_honest, old_tables_in, tables_in};
 ghost use Rattle.dip_store_sql.specs.Causes.{IsCaused, has_faulted};
 ghost use Rattle.dip_store_sql.specs.Showing.{show_centre, show_listed, show_name, show_order, show_unit, show_vote};

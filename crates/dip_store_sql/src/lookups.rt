@@ -1,7 +1,7 @@
 //! Queries of one row.
 ghost use Rattle.std.specs.Prelude.{◌≡◌, IfErr, IfOk, option_map};
 ghost use Rattle.std.specs.List.{find};
-ghost use Rattle.dip_store_tables.specs.Tables.{is_ballot, is_choice_in, is_named, is_seat};
+ghost use Rattle.dip_store_rows.specs.Tables.{is_ballot, is_choice_in, is_named, is_seat};
 ghost use Rattle.dip_store_sql.specs.Calls.{FindsRow, IsKept, Selects, WasKept, does_show, is_honest, old_tables_in, tables_in};
 ghost use Rattle.dip_store_sql.specs.Causes.{IsCaused, has_faulted};
 ghost use Rattle.dip_store_sql.specs.Refusals.{IsBlamed};

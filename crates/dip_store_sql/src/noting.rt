@@ -2,7 +2,7 @@
 ghost use Rattle.std.specs.Prelude.{◌≡◌, ◌<◌, ◌^◌, map as each};
 ghost use Rattle.sqlite.specs.Held.{state};
 ghost use Rattle.dip_store_sql.specs.TablesAfter.{counting, game_as, named, on_ballot, on_desk, on_game, on_seat, on_seats, secret_as};
-ghost use Rattle.dip_store_tables.specs.Renewing.{second, voteless};
+ghost use Rattle.dip_store_rows.specs.Made.{second, voteless};
 ghost use Rattle.dip_store_sql.specs.Schema.{desk_table, seat_table};
 ghost use Rattle.dip_store_sql.specs.Storing.{Stores, second_row, voteless_row};
 ghost use Rattle.dip_store_sql.specs.Transactions.{Does, always};

@@ -12,7 +12,7 @@ use Rattle.dip_store_tables.specs.Boards.{UnitRow, CentreRow, unit_rows, centre_
 use Rattle.dip_store_tables.proofs.Returns.{board_back}
 use Rattle.dip_desk_state.proofs.KeyedLemmas.{names_tell}
 use Rattle.dip_desk_state.specs.Records.{Public}
-use Rattle.dip_store_tables.specs.Tables.{ChoiceRow, is_unit_in, is_centre_in, is_choice_in}
+use Rattle.dip_store_rows.specs.Tables.{ChoiceRow, is_unit_in, is_centre_in, is_choice_in}
 use Rattle.dip_store_tables.specs.Reading.{intends, intent_in, public_of}
 use Rattle.dip_store_tables.specs.Writing.{choice_row, game_row}
 use Rattle.dip_desk_state.specs.Writable.{IsStatusOf}

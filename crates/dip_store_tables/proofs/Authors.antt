@@ -10,7 +10,7 @@ use Rattle.dip_desk_state.specs.Keyed.{change_at}
 use Rattle.dip_desk_state.specs.State.{Game, Part, Author, Nobody, TheMaster, Seat, Effect, Nothing, Pending, Votes, Delivers, Opens, Publishes, Seats, name_of, power_in, with_letter, with_author}
 use Rattle.dip_desk_state.proofs.KeyedLemmas.{powers_tell}
 use Rattle.dip_desk_state.specs.Records.{Kept}
-use Rattle.dip_store_tables.specs.Tables.{GameRow, SeatRow, Tables, is_seat, is_seat_in}
+use Rattle.dip_store_rows.specs.Tables.{GameRow, SeatRow, Tables, is_seat, is_seat_in}
 use Rattle.dip_store_tables.specs.Reading.{public_of, papers_of, part_of, game_of}
 use Rattle.dip_desk_state.specs.Writable.{Lacks, IsAuthorOf}
 use Rattle.dip_store_tables.specs.Writing.{as_printed, seat_noted}

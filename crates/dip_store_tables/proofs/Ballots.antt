@@ -8,7 +8,7 @@ use Rattle.dip_map.specs.Charts.{Chart, IsMap}
 use Rattle.dip_desk_state.proofs.KeyedLemmas.{names_tell}
 use Rattle.dip_desk_state.specs.Records.{Vote, No}
 use Rattle.dip_desk_state.specs.Writable.{IsVoteOf}
-use Rattle.dip_store_tables.specs.Tables.{BallotRow, is_ballot, is_ballot_in}
+use Rattle.dip_store_rows.specs.Tables.{BallotRow, is_ballot, is_ballot_in}
 use Rattle.dip_store_tables.specs.Votes.{vote_in, vote_of, vote_on}
 use Rattle.dip_store_tables.specs.Writing.{ballot_noted}
 use Rattle.dip_store_tables.specs.Coding.{HasBallot}

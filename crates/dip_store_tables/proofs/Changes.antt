@@ -8,7 +8,7 @@ use Rattle.dip_store_tables.specs.Boards.{power_name}
 use Rattle.dip_desk_state.specs.Keyed.{change_at}
 use Rattle.dip_desk_state.specs.State.{Author, Nobody, TheMaster, Seat, Effect, Nothing, Pending, Votes, Delivers, Opens, Publishes, Seats, name_of, desk_after, game_after, new_games}
 use Rattle.dip_desk_state.specs.Records.{Kept}
-use Rattle.dip_store_tables.specs.Tables.{DeskRow, SeatRow, Tables, is_seat}
+use Rattle.dip_store_rows.specs.Tables.{DeskRow, SeatRow, Tables, is_seat}
 use Rattle.dip_store_tables.specs.Reading.{desk_of, game_of}
 use Rattle.dip_desk_state.specs.Writable.{Lacks}
 use Rattle.dip_store_tables.specs.Writing.{as_printed, desk_noted, seat_noted}

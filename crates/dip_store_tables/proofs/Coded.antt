@@ -8,7 +8,7 @@ use Rattle.dip_map.specs.Charts.{Chart}
 use Rattle.dip_store_tables.specs.Boards.{power_name}
 use Rattle.dip_desk_state.specs.State.{Author, Nobody, TheMaster, Seat, NewSeat, Effect, Nothing, Pending, Votes, Delivers, Opens, Publishes, Seats}
 use Rattle.dip_desk_state.specs.Records.{Kept}
-use Rattle.dip_store_tables.specs.Tables.{BallotRow, SeatRow, Tables, is_ballot, is_ballot_in, is_seat, is_seat_in, GameRow, is_named}
+use Rattle.dip_store_rows.specs.Tables.{BallotRow, SeatRow, Tables, is_ballot, is_ballot_in, is_seat, is_seat_in, GameRow, is_named}
 use Rattle.dip_store_tables.specs.Writing.{ballot_noted, ballot_row, seat_row, game_row}
 use Rattle.dip_store_tables.specs.Changing.{noting, ordering, reaching, is_reader, one_more}
 use Rattle.dip_store_tables.specs.Coding.{IsEffectOf, IsSeatOf, HasBallot, HasGame}

@@ -13,7 +13,7 @@ use Rattle.dip_store_tables.specs.Boards.{power_name}
 use Rattle.dip_desk_state.specs.State.{Author, Nobody, TheMaster, Seat, NewSeat, Effect, Nothing, Pending, Votes, Delivers, Opens, Publishes, Seats}
 use Rattle.dip_desk_state.proofs.KeyedLemmas.{names_tell}
 use Rattle.dip_desk_state.specs.Records.{Public, Item, White, Grey, Kept}
-use Rattle.dip_store_tables.specs.Tables.{GameRow, SeatRow, BoxRow, PaperRow, Tables, is_named, is_seat, is_seat_in, is_box, is_box_in, is_paper_in}
+use Rattle.dip_store_rows.specs.Tables.{GameRow, SeatRow, BoxRow, PaperRow, Tables, is_named, is_seat, is_seat_in, is_box, is_box_in, is_paper_in}
 use Rattle.dip_store_tables.specs.Writing.{game_row, seat_row, paper_row, next_row, seat_noted}
 use Rattle.dip_store_tables.specs.Changing.{noting, reaching, delivering, opening, publishing, is_reader, one_more}
 use Rattle.dip_store_tables.specs.Coding.{AreApart, same_name}

@@ -4,7 +4,7 @@ use Rattle.std.proofs.lemmas.Bool.{cases_Bool}
 use Rattle.sqlite_keyed.proofs.ListLemmas.{all_weaker, filter_same, map-map}
 use Rattle.dip_map.specs.Charts.{Chart}
 use Rattle.dip_desk_state.specs.Records.{Item}
-use Rattle.dip_store_tables.specs.Tables.{SeatRow, Tables, is_seat}
+use Rattle.dip_store_rows.specs.Tables.{SeatRow, Tables, is_seat}
 use Rattle.dip_store_tables.specs.Writing.{next_row}
 use Rattle.dip_store_tables.specs.Changing.{is_reader, one_more, with_items, delivering, delivering_one, delivering_each}
 use Rattle.dip_store_tables.specs.Coding.{AreApart}

@@ -13,7 +13,7 @@ use Rattle.dip_desk_state.specs.Keyed.{change_at}
 use Rattle.dip_desk_state.specs.State.{Game, Part, NewSeat, Effect, Nothing, Pending, Votes, Delivers, Opens, Publishes, Seats, name_of, public_after, papers_after, with_effect, with_digest, after_paper, new_games}
 use Rattle.dip_desk_state.proofs.KeyedLemmas.{names_tell}
 use Rattle.dip_desk_state.specs.Records.{Public, Standing}
-use Rattle.dip_store_tables.specs.Tables.{GameRow, SeatRow, PendingRow, PaperRow, Tables, is_named, is_seat, is_pending_in, is_paper_in}
+use Rattle.dip_store_rows.specs.Tables.{GameRow, SeatRow, PendingRow, PaperRow, Tables, is_named, is_seat, is_pending_in, is_paper_in}
 use Rattle.dip_store_tables.specs.Votes.{vote_in}
 use Rattle.dip_store_tables.specs.Reading.{intends, kept_of, public_of, pending_of, standing_of, items_of, part_of, game_of, status_of}
 use Rattle.dip_store_tables.specs.Writing.{game_row, paper_row}

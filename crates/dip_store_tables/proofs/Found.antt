@@ -9,7 +9,7 @@ use Rattle.dip_store_tables.specs.Boards.{power_name, power_in as power_numbered
 use Rattle.dip_desk_state.specs.Keyed.{at}
 use Rattle.dip_desk_state.specs.State.{Game, Part, name_of, power_in, game_at, seat_at, part_at}
 use Rattle.dip_desk_state.proofs.KeyedLemmas.{names_tell}
-use Rattle.dip_store_tables.specs.Tables.{GameRow, SeatRow, Tables, is_named, is_seat, is_seat_in}
+use Rattle.dip_store_rows.specs.Tables.{GameRow, SeatRow, Tables, is_named, is_seat, is_seat_in}
 use Rattle.dip_store_tables.specs.Reading.{part_of, game_of, state_of}
 use Rattle.dip_store_tables.specs.Coding.{AreCoded, HasGame, IsSeatOf}
 use Rattle.dip_store_tables.specs.Looking.{PublicIsFound, OwnIsFound}

@@ -9,7 +9,7 @@ use Rattle.dip_desk_state.specs.Keyed.{change_at}
 use Rattle.dip_desk_state.specs.State.{Game, Part, name_of}
 use Rattle.dip_desk_state.proofs.KeyedLemmas.{names_tell}
 use Rattle.dip_desk_state.specs.Records.{Public}
-use Rattle.dip_store_tables.specs.Tables.{GameRow, SeatRow, Tables, is_seat_in}
+use Rattle.dip_store_rows.specs.Tables.{GameRow, SeatRow, Tables, is_seat_in}
 use Rattle.dip_store_tables.specs.Reading.{public_of, papers_of, part_of, game_of}
 use Rattle.dip_store_tables.specs.Coding.{same_name}
 use Rattle.dip_store_tables.proofs.Lists.{each_changed, map_on, all_passed, filter_through}

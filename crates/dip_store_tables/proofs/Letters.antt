@@ -9,7 +9,7 @@ use Rattle.dip_map.specs.Charts.{Chart, IsMap}
 use Rattle.dip_store_tables.specs.Boards.{code, power_name, power_in as power_numbered, prov_in, or_zero}
 use Rattle.dip_desk_state.specs.State.{Part, Seat, Effect, Nothing, Pending, Votes, Delivers, Opens, Publishes, Seats, with_letter}
 use Rattle.dip_desk_state.specs.Records.{Kept, Standing, Vote}
-use Rattle.dip_store_tables.specs.Tables.{SeatRow, PendingRow, Tables, is_seat, is_pending}
+use Rattle.dip_store_rows.specs.Tables.{SeatRow, PendingRow, Tables, is_seat, is_pending}
 use Rattle.dip_store_tables.specs.Reading.{kept_of, pending_of, standing_of, items_of, part_of}
 use Rattle.dip_desk_state.specs.Writable.{Lacks}
 use Rattle.dip_store_tables.specs.Writing.{number_of, pending_row, as_printed, seat_noted}

@@ -10,7 +10,7 @@ use Rattle.dip_store_tables.specs.Boards.{UnitRow, CentreRow, power_name, power_
 use Rattle.dip_desk_state.specs.State.{NewSeat, fresh, opening_game}
 use Rattle.dip_desk_state.proofs.KeyedLemmas.{names_tell}
 use Rattle.dip_desk_state.specs.Records.{Public, No}
-use Rattle.dip_store_tables.specs.Tables.{GameRow, SeatRow, PendingRow, BoxRow, PaperRow, Tables, is_seat_in, is_pending_in, is_box_in, BallotRow, is_ballot, is_ballot_in}
+use Rattle.dip_store_rows.specs.Tables.{GameRow, SeatRow, PendingRow, BoxRow, PaperRow, Tables, is_seat_in, is_pending_in, is_box_in, BallotRow, is_ballot, is_ballot_in}
 use Rattle.dip_store_tables.specs.Votes.{vote_in, vote_on}
 use Rattle.dip_store_tables.specs.Reading.{intends, kept_of, pending_of, standing_of, items_of, item_of, part_of, game_of, status_of}
 use Rattle.dip_store_tables.specs.Writing.{ballot_row, game_row, seat_row, paper_row}

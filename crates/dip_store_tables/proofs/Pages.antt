@@ -8,7 +8,7 @@ use Rattle.dip_desk_state.specs.State.{paper_numbered}
 use Rattle.dip_store_tables.specs.Counting.{counted}
 use Rattle.dip_store_tables.specs.Looking.{is_within, PageIsFound, PaperIsFound}
 use Rattle.dip_store_tables.specs.Reading.{item_of}
-use Rattle.dip_store_tables.specs.Tables.{BoxRow, PaperRow, is_box, is_paper_in}
+use Rattle.dip_store_rows.specs.Tables.{BoxRow, PaperRow, is_box, is_paper_in}
 use Rattle.dip_store_tables.proofs.Lists.{filter_on, none_found}
 
 -- the numbers from one on, so many

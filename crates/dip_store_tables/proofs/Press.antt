@@ -10,7 +10,7 @@ use Rattle.dip_store_tables.specs.Boards.{power_in as power_numbered}
 use Rattle.dip_desk_state.specs.Keyed.{change_at}
 use Rattle.dip_desk_state.specs.State.{Delivers, name_of, with_effect, with_item}
 use Rattle.dip_desk_state.specs.Records.{Item, White, Grey}
-use Rattle.dip_store_tables.specs.Tables.{SeatRow, Tables, is_seat, is_box}
+use Rattle.dip_store_rows.specs.Tables.{SeatRow, Tables, is_seat, is_box}
 use Rattle.dip_store_tables.specs.Reading.{own_of, item_of, items_of, part_of, game_of}
 use Rattle.dip_store_tables.specs.Writing.{next_row}
 use Rattle.dip_store_tables.specs.Changing.{is_reader, one_more, delivering}

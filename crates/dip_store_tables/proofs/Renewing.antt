@@ -14,7 +14,7 @@ use Rattle.dip_store_tables.specs.Counting.{counted, item_numbers}
 use Rattle.dip_store_tables.specs.Legible.{IsDeskLegible, IsSeatLegible}
 use Rattle.dip_store_tables.specs.Boards.{board_of}
 use Rattle.dip_store_tables.specs.Reading.{desk_of, game_of, intent_in, items_of, own_of, papers_of, part_of, public_of}
-use Rattle.dip_store_tables.specs.Tables.{DeskRow, GameRow, SeatRow, Tables, is_ballot, is_centre_in, is_choice_in, is_seat, is_seat_in, is_unit_in}
+use Rattle.dip_store_rows.specs.Tables.{DeskRow, GameRow, SeatRow, Tables, is_ballot, is_centre_in, is_choice_in, is_seat, is_seat_in, is_unit_in}
 use Rattle.dip_store_tables.specs.Votes.{IsBallotText, vote_in, vote_of, vote_on}
 use Rattle.dip_store_tables.specs.Written.{IsDeskWritten, IsGameWritten, IsSeatWritten}
 use Rattle.dip_store_tables.specs.Renewing.{OldTablesAreRenewed, WasGameWritten, WasSeatWritten, old_ballot, old_choice, old_game_of, old_part_of, old_vote, renewed, second, voteless}

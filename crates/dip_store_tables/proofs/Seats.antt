@@ -7,7 +7,7 @@ use Rattle.sqlite_keyed.proofs.ListLemmas.{all_both, all_map, all_weaker, ascend
 use Rattle.dip_map.specs.Charts.{Chart, IsMap}
 use Rattle.dip_store_tables.specs.Boards.{power_name, power_in}
 use Rattle.dip_desk_state.proofs.KeyedLemmas.{names_tell}
-use Rattle.dip_store_tables.specs.Tables.{SeatRow, is_seat, is_seat_in}
+use Rattle.dip_store_rows.specs.Tables.{SeatRow, is_seat, is_seat_in}
 use Rattle.dip_store_tables.specs.Coding.{IsSeatOf, same_seat}
 use Rattle.dip_store_tables.proofs.Records.{power_back}
 

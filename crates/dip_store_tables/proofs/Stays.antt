@@ -11,7 +11,7 @@ use Rattle.dip_desk_state.specs.State.{Author, Nobody, TheMaster, Seat, NewSeat,
 use Rattle.dip_desk_state.specs.Writable.{IsAuthorOf}
 use Rattle.dip_desk_state.specs.Records.{Item, White, Grey, Kept, Standing}
 use Rattle.dip_store_tables.specs.Changing.{noting, ordering, reaching, is_reader, one_more}
-use Rattle.dip_store_tables.specs.Tables.{SeatRow, Tables, is_seat, is_seat_in, is_pending, is_pending_in, is_box_in, is_paper_in}
+use Rattle.dip_store_rows.specs.Tables.{SeatRow, Tables, is_seat, is_seat_in, is_pending, is_pending_in, is_box_in, is_paper_in}
 use Rattle.dip_store_tables.specs.Writing.{as_printed, desk_noted, next_row, paper_row, pending_row, seat_noted, seat_row, whole_reply}
 use Rattle.dip_store_tables.specs.LegibleLaws.{TablesStayLegible}
 use Rattle.dip_store_tables.specs.Legible.{AreLegible, IsDeskLegible, IsItemLegible, IsOrderLegible, IsPaperLegible, IsSeatLegible, IsText}

@@ -16,7 +16,7 @@ use Rattle.dip_store_tables.specs.Coding.{IsEffectOf, same_name}
 use Rattle.dip_desk_state.specs.Writable.{IsPlainItem, IsStatusOf}
 use Rattle.dip_store_tables.specs.ChangeColumns.{FitsColumns, IsEffectNarrow, IsNarrow}
 use Rattle.dip_store_tables.specs.Laws.{TablesStayWritten}
-use Rattle.dip_store_tables.specs.Tables.{GameRow, SeatRow, ChoiceRow, Tables, is_named, is_choice_in, is_seat, is_seat_in, is_unit_in, is_centre_in, is_pending, is_pending_in, is_box_in, is_ballot, is_ballot_in}
+use Rattle.dip_store_rows.specs.Tables.{GameRow, SeatRow, ChoiceRow, Tables, is_named, is_choice_in, is_seat, is_seat_in, is_unit_in, is_centre_in, is_pending, is_pending_in, is_box_in, is_ballot, is_ballot_in}
 use Rattle.dip_store_tables.specs.Writing.{as_printed, ballot_noted, ballot_row, choice_row, desk_noted, game_row, next_row, pending_row, seat_effect, seat_kept, seat_noted, seat_row, whole_reply}
 use Rattle.dip_store_tables.specs.Votes.{IsBallotText}
 use Rattle.dip_store_tables.specs.Written.{AreWritten, IsDeskWritten, IsGameWritten, IsItemWritten, IsOrderWritten, IsSeatWritten}

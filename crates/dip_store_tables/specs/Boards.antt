@@ -10,23 +10,7 @@ use Rattle.dip_map.specs.Boards.{Position, IsOf, season_number}
 use Rattle.dip_map.specs.declared.boards.Dislodged.{Dislodged}
 use Rattle.dip_map.specs.declared.boards.Season.{Season}
 use Rattle.dip_map.specs.declared.boards.Season.TheVariants.{SpringMoves, SpringRetreats, FallMoves, FallRetreats, Winter}
-
--- a unit of a game: kind 0 is an army, 1 a fleet; an army has no coast, nor has a fleet where there is but one; the origin is that of a
--- dislodged unit's attacker, empty where that came by convoy
-pub record UnitRow : Type 0 where
-  pub game : List ℕ
-  pub province : List ℕ
-  pub dislodged : ℕ
-  pub power : List ℕ
-  pub kind : ℕ
-  pub coast : List ℕ
-  pub origin : List ℕ
-
--- a centre that a power owns
-pub record CentreRow : Type 0 where
-  pub game : List ℕ
-  pub province : List ℕ
-  pub power : List ℕ
+pub use Rattle.dip_store_rows.specs.Tables.{CentreRow, UnitRow}
 
 -- what a province is told by, and a power
 abbrev pub code : Chart → ℕ → List ℕ

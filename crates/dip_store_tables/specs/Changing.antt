@@ -6,7 +6,7 @@ use Rattle.dip_map.specs.Charts.{Chart}
 use Rattle.dip_store_tables.specs.Boards.{power_name, power_in, unit_rows, centre_rows}
 use Rattle.dip_desk_state.specs.Records.{Public, Item, Kept, Standing, Vote}
 use Rattle.dip_desk_state.specs.State.{Author, Nobody, TheMaster, Seat, NewSeat, Effect, Nothing, Pending, Votes, Delivers, Opens, Publishes, Seats, Change}
-use Rattle.dip_store_tables.specs.Tables.{SeatRow, Tables, is_named, is_seat_in, is_unit_in, is_centre_in, is_pending_in, is_box_in, is_paper_in, is_ballot_in, is_choice_in, is_seat, is_pending, is_ballot}
+use Rattle.dip_store_rows.specs.Tables.{SeatRow, Tables, is_named, is_seat_in, is_unit_in, is_centre_in, is_pending_in, is_box_in, is_paper_in, is_ballot_in, is_choice_in, is_seat, is_pending, is_ballot}
 use Rattle.dip_store_tables.specs.Writing.{game_row, seat_row, pending_row, paper_row, ballot_row, choice_row, next_row, as_printed, ballot_noted, desk_noted, seat_noted}
 
 -- the author's row is written anew, with the reply as it was printed

@@ -1,13 +1,13 @@
 -- What holds of tables that a keeper wrote by a map, and of changes that it can write.
 use Rattle.std.specs.Prelude.{◌≡◌, ◌<◌, ◌==◌, ℕ, Bool, true, false, [], ◌∷◌, length, bytes_eq, List}
 use Rattle.std.specs.List.{AllByRecursion, list_any}
-use Rattle.sqlite_trees.specs.Tree.{IsAscending}
 use Rattle.dip_map.specs.Charts.{Chart}
 use Rattle.dip_map.specs.Boards.{IsOf}
 use Rattle.dip_store_tables.specs.Boards.{power_name}
 use Rattle.dip_desk_state.specs.State.{Effect, Nothing, Pending, Votes, Delivers, Opens, Publishes, Seats, Change}
-use Rattle.dip_store_tables.specs.Tables.{BallotRow, DeskRow, GameRow, SeatRow, Tables, is_ballot, is_named, is_seat}
+use Rattle.dip_store_rows.specs.Tables.{BallotRow, DeskRow, GameRow, SeatRow, Tables, is_ballot, is_named, is_seat}
 use Rattle.dip_desk_state.specs.Writable.{Lacks, IsPlainItem, IsStatusOf, IsVoteOf, IsAuthorOf}
+pub use Rattle.dip_store_rows.specs.Apart.{AreApart, same_name, same_seat}
 
 -- the seat's power is one of the map
 abbrev pub IsSeatOf : Chart → SeatRow → Type 0
@@ -27,17 +27,6 @@ pub record AreCoded (m : Chart) (t : Tables) : Type 0 where
   pub seats : AllByRecursion (IsSeatOf m) t.seats
   pub games : AllByRecursion (λ s. HasGame t.games s.game) t.seats
   pub ballots : AllByRecursion (λ s. HasBallot t.ballots s.game s.power) t.seats
-
-abbrev pub same_name : GameRow → GameRow → Bool
-same_name a b = bytes_eq a.name b.name
-
-abbrev pub same_seat : SeatRow → SeatRow → Bool
-same_seat a b = is_seat b.game b.power a
-
--- no two games have one name, and no two seats of a game one power
-pub record AreApart (t : Tables) : Type 0 where
-  pub games : IsAscending (λ a b. same_name a b ≡ false) t.games
-  pub seats : IsAscending (λ a b. same_seat a b ≡ false) t.seats
 
 abbrev pub IsEffectOf : Chart → Effect → Type 0
 IsEffectOf m Nothing = Unit {0}

@@ -3,23 +3,8 @@ use Rattle.std.specs.Prelude.{◌≡◌, ◌≤◌, ℕ, zero, suc, ◌+◌, tru
 use Rattle.std.specs.List.{AllByRecursion}
 use Rattle.dip_desk_state.specs.Bounds.{most_papers}
 use Rattle.dip_desk_state.specs.State.{Effect, Nothing, Pending, Votes, Delivers, Opens, Publishes, Seats}
-use Rattle.dip_store_tables.specs.Tables.{GameRow, BoxRow, PaperRow, Tables, is_named, is_box, is_paper_in}
-
--- the numbers from 1 to this one
-abbrev pub counted : ℕ → List ℕ
-counted zero = []
-counted (suc n) = counted n ++ suc n ∷ []
-
-abbrev pub paper_numbers : List PaperRow → List ℕ → List ℕ
-paper_numbers papers name = map (λ p. p.number) (filter (is_paper_in name) papers)
-
-abbrev pub item_numbers : List BoxRow → List ℕ → List ℕ → List ℕ
-item_numbers boxes name power = map (λ b. b.number) (filter (is_box name power) boxes)
-
--- each game's papers have the numbers from 1 to their count, in this order, and so have each seat's items
-pub record AreCounted (t : Tables) : Type 0 where
-  pub papers : AllByRecursion (λ g. paper_numbers t.papers g.name ≡ counted g.papers) t.games
-  pub items : AllByRecursion (λ s. item_numbers t.boxes s.game s.power ≡ counted s.items) t.seats
+use Rattle.dip_store_rows.specs.Tables.{GameRow, BoxRow, PaperRow, Tables, is_named, is_box, is_paper_in}
+pub use Rattle.dip_store_rows.specs.Counted.{AreCounted, counted, item_numbers, paper_numbers}
 
 -- the next number of a game's papers, which is no more than a game has
 abbrev pub IsNextPaper : ℕ → GameRow → Type 0

@@ -7,7 +7,7 @@ use Rattle.dip_store_tables.specs.Coding.{AreApart, AreCoded, IsChangeOf}
 use Rattle.dip_store_tables.specs.ChangeColumns.{HasWidths, IsWritable}
 use Rattle.dip_store_tables.specs.Counting.{AreCounted, CountsOn}
 use Rattle.dip_store_tables.specs.Reading.{state_of}
-use Rattle.dip_store_tables.specs.Tables.{Tables}
+use Rattle.dip_store_rows.specs.Tables.{Tables}
 use Rattle.dip_store_tables.specs.Writing.{new_tables}
 use Rattle.dip_store_tables.specs.Written.{AreWritten}
 use Rattle.dip_desk_state.specs.Records.{Item}

@@ -1,15 +1,11 @@
 -- Rows that are legible: each text that is read back is one of characters, and each count has 32 bits.
 use Rattle.std.specs.Prelude.{ℕ, ◌<◌, ◌^◌, List}
 use Rattle.std.specs.List.{AllByRecursion}
-use Rattle.std.specs.Str.{IsUtf8}
 use Rattle.dip_map.specs.Charts.{Chart, IsMap}
 use Rattle.dip_store_tables.specs.Coding.{AreCoded}
-use Rattle.dip_store_tables.specs.Tables.{DeskRow, SeatRow, PendingRow, BoxRow, PaperRow, Tables}
+use Rattle.dip_store_rows.specs.Tables.{DeskRow, SeatRow, PendingRow, BoxRow, PaperRow, Tables}
 use Rattle.dip_store_tables.specs.Written.{AreWritten}
-
--- bytes that are a text of characters
-pub record IsText (text : List ℕ) : Type 0 where
-  pub utf8 : IsUtf8 text
+pub use Rattle.dip_store_rows.specs.Texts.{IsText}
 
 abbrev pub IsDeskLegible : DeskRow → Type 0
 IsDeskLegible d = IsText d.reply

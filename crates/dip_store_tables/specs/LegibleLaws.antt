@@ -4,7 +4,7 @@ use Rattle.dip_map.specs.Charts.{Chart, IsMap}
 use Rattle.dip_desk_state.specs.State.{Change}
 use Rattle.dip_desk_state.specs.Writable.{IsAuthorOf}
 use Rattle.dip_store_tables.specs.Changing.{changing}
-use Rattle.dip_store_tables.specs.Tables.{Tables}
+use Rattle.dip_store_rows.specs.Tables.{Tables}
 use Rattle.dip_store_tables.specs.Writing.{new_tables}
 use Rattle.dip_store_tables.specs.Legible.{AreLegible}
 use Rattle.dip_store_tables.specs.Room.{HasRoom}

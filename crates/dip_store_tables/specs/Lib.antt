@@ -7,7 +7,6 @@ pub mod Counting
 pub mod Laws
 pub mod Looking
 pub mod Reading
-pub mod Tables
 pub mod Votes
 pub mod Texts
 pub mod Writing
@@ -20,3 +19,4 @@ pub mod Renewing
 pub mod ChangeTexts
 pub use Rattle.sqlite_keyed.specs.Lists
 pub use Rattle.sqlite_keyed.specs.Keyed
+pub use Rattle.dip_store_rows.specs.Tables

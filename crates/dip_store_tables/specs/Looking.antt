@@ -7,7 +7,7 @@ use Rattle.dip_desk_state.specs.State.{own_at, page_of, paper_numbered, public_a
 use Rattle.dip_store_tables.specs.Coding.{AreCoded}
 use Rattle.dip_store_tables.specs.Counting.{counted, item_numbers, paper_numbers}
 use Rattle.dip_store_tables.specs.Reading.{game_of, item_of, own_of, part_of, public_of, state_of}
-use Rattle.dip_store_tables.specs.Tables.{GameRow, SeatRow, Tables, is_box, is_named, is_paper_in, is_seat}
+use Rattle.dip_store_rows.specs.Tables.{GameRow, SeatRow, Tables, is_box, is_named, is_paper_in, is_seat}
 
 -- the public part of a game is what the first row of its name says
 abbrev pub PublicIsFound : Chart → Type 0

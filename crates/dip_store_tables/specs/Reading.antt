@@ -5,7 +5,7 @@ use Rattle.dip_map.specs.Charts.{Chart}
 use Rattle.dip_store_tables.specs.Boards.{UnitRow, CentreRow, board_of, power_in, prov_in}
 use Rattle.dip_desk_state.specs.Records.{Public, Own, Item, White, Grey, Kept, Standing, Status, Running, Paused, Closed, Ended, Won, Drawn}
 use Rattle.dip_desk_state.specs.State.{State, Game, Part, Desk}
-use Rattle.dip_store_tables.specs.Tables.{DeskRow, GameRow, SeatRow, PendingRow, BoxRow, PaperRow, BallotRow, ChoiceRow, Tables, is_seat_in, is_unit_in, is_centre_in, is_choice_in, is_paper_in, is_pending, is_box}
+use Rattle.dip_store_rows.specs.Tables.{DeskRow, GameRow, SeatRow, PendingRow, BoxRow, PaperRow, BallotRow, ChoiceRow, Tables, is_seat_in, is_unit_in, is_centre_in, is_choice_in, is_paper_in, is_pending, is_box}
 use Rattle.dip_store_tables.specs.Texts.{behind, pieces}
 use Rattle.dip_store_tables.specs.Votes.{vote_in}
 

@@ -10,9 +10,10 @@ use Rattle.dip_store_tables.specs.Coding.{AreApart, HasGame, IsSeatOf}
 use Rattle.dip_store_tables.specs.Counting.{AreCounted}
 use Rattle.dip_store_tables.specs.Legible.{AreLegible, AreOurs, IsText}
 use Rattle.dip_store_tables.specs.Reading.{desk_of, items_of, own_of, papers_of, public_of, state_of}
-use Rattle.dip_store_tables.specs.Tables.{BallotRow, ChoiceRow, DeskRow, GameRow, SeatRow, Tables, is_seat_in}
+use Rattle.dip_store_rows.specs.Tables.{BallotRow, ChoiceRow, DeskRow, GameRow, SeatRow, Tables, is_seat_in}
 use Rattle.dip_store_tables.specs.Writing.{choice_row}
 use Rattle.dip_store_tables.specs.Written.{IsDeskWritten, IsGameWritten, IsItemWritten, IsOrderWritten, KeepsLetter}
+pub use Rattle.dip_store_rows.specs.Made.{second, voteless}
 
 -- in version 1 a seat's vote stands in its row: 0 for none, 1 for a draw between all survivors
 abbrev pub old_vote : ℕ → Vote
@@ -45,12 +46,6 @@ old_ballot s = record {
 
 abbrev pub old_choice : List ℕ → ChoiceRow
 old_choice name = choice_row name false
-
-abbrev pub voteless : SeatRow → SeatRow
-voteless s = record s { vote = 0 }
-
-abbrev pub second : DeskRow → DeskRow
-second d = record d { version = 2 }
 
 -- the tables of version 2: each seat's vote on its ballot, no game with the option INTENT, and all else as it was
 abbrev pub renewed : Tables → Tables

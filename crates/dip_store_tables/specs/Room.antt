@@ -6,7 +6,7 @@ use Rattle.dip_store_tables.specs.Boards.{power_name}
 use Rattle.dip_desk_state.specs.Bounds.{most_items, most_sent}
 use Rattle.dip_desk_state.specs.State.{Author, Nobody, TheMaster, Seat, Effect, Nothing, Pending, Votes, Delivers, Opens, Publishes, Seats}
 use Rattle.dip_store_tables.specs.Changing.{is_reader}
-use Rattle.dip_store_tables.specs.Tables.{SeatRow, Tables, is_seat}
+use Rattle.dip_store_rows.specs.Tables.{SeatRow, Tables, is_seat}
 
 -- an author who is a seat may send one more letter of press
 abbrev pub SentHasRoom : Chart → Author → List ℕ → List SeatRow → Type 0

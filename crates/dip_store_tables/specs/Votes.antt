@@ -5,7 +5,7 @@ use Rattle.dip_map.specs.Charts.{Chart}
 use Rattle.dip_desk_state.specs.Records.{Vote, No, Yes, For}
 use Rattle.dip_desk_state.specs.Writable.{IsVoteOf}
 use Rattle.dip_store_tables.specs.Boards.{power_in, power_name}
-use Rattle.dip_store_tables.specs.Tables.{BallotRow, is_ballot}
+use Rattle.dip_store_rows.specs.Tables.{BallotRow, is_ballot}
 use Rattle.dip_store_tables.specs.Texts.{joined, pieces}
 
 -- NO, YES, or the names of the powers, joined by spaces

@@ -7,12 +7,10 @@ use Rattle.dip_desk_state.specs.declared.records.Outcome.TheVariants.{Done}
 use Rattle.dip_desk_state.specs.Records.{Public, Item, White, Grey, Kept, Standing, Vote}
 use Rattle.dip_desk_state.specs.Texts.{reply_text, status_text}
 use Rattle.dip_desk_state.specs.State.{NewSeat, Effect, Nothing, Pending, Votes, Delivers, Opens, Publishes, Seats}
-use Rattle.dip_store_tables.specs.Tables.{DeskRow, GameRow, SeatRow, PendingRow, BoxRow, PaperRow, BallotRow, ChoiceRow, Tables}
+use Rattle.dip_store_rows.specs.Tables.{DeskRow, GameRow, SeatRow, PendingRow, BoxRow, PaperRow, BallotRow, ChoiceRow, Tables}
 use Rattle.dip_store_tables.specs.Texts.{joined, ended}
 use Rattle.dip_store_tables.specs.Votes.{ballot_text}
-
-abbrev pub number_of : Bool → ℕ
-number_of b = if b then 1 else 0
+pub use Rattle.dip_store_rows.specs.Made.{choice_row, new_tables, number_of}
 
 -- the reply to a letter of a sender in a game as it was printed: its head, its lines, END
 abbrev pub whole_reply : List ℕ → List ℕ → Kept → List ℕ
@@ -54,10 +52,6 @@ seat_row m name s = record {
 -- the ballot of such a seat
 abbrev pub ballot_row : Chart → List ℕ → NewSeat → BallotRow
 ballot_row m name s = record { game = name; power = power_name m s.power; names = codes "NO" }
-
--- whether a game of that name has the option INTENT
-abbrev pub choice_row : List ℕ → Bool → ChoiceRow
-choice_row name intent = record { game = name; intent = number_of intent }
 
 abbrev pub pending_row : Chart → List ℕ → List ℕ → Standing → PendingRow
 pending_row m name power o = record { game = name; power = power; province = code m o.province; line = o.line }
@@ -112,18 +106,3 @@ ballot_noted m v b = record b { names = ballot_text m v }
 
 abbrev pub seat_noted : Kept → Effect → SeatRow → SeatRow
 seat_noted k e s = seat_effect e (seat_kept k s)
-
--- the tables of a new desk, of version 2
-abbrev pub new_tables : List ℕ → List ℕ → Tables
-new_tables map_sum digest = record {
-  desk = record { id = 1; version = 2; map = map_sum; digest = digest; last = 0; kept = []; reply = [] } ∷ [];
-  games = [];
-  seats = [];
-  units = [];
-  centres = [];
-  pending = [];
-  boxes = [];
-  papers = [];
-  ballots = [];
-  choices = [];
-}

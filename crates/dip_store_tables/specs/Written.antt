@@ -7,7 +7,7 @@ use Rattle.dip_store_tables.specs.Boards.{UnitRow, CentreRow, code, unit_rows, c
 use Rattle.dip_desk_state.specs.Records.{Public, Item, Kept}
 use Rattle.dip_desk_state.specs.Writable.{IsPlainItem, IsStatusOf}
 use Rattle.dip_store_tables.specs.ChangeColumns.{IsNarrow}
-use Rattle.dip_store_tables.specs.Tables.{DeskRow, GameRow, SeatRow, PendingRow, BoxRow, ChoiceRow, Tables, is_unit_in, is_centre_in, is_choice_in}
+use Rattle.dip_store_rows.specs.Tables.{DeskRow, GameRow, SeatRow, PendingRow, BoxRow, ChoiceRow, Tables, is_unit_in, is_centre_in, is_choice_in}
 use Rattle.dip_store_tables.specs.Writing.{box_row, choice_row, game_row, whole_reply}
 use Rattle.dip_store_tables.specs.Votes.{IsBallotText}
 

@@ -21,7 +21,7 @@ pub struct ItemColumns {
 
 impl Model for ItemColumns {
     ghost use Rattle.std.specs.Prelude.{string_bytes, []};
-    ghost use Rattle.dip_store_tables.specs.Tables.{BoxRow};
+    ghost use Rattle.dip_store_rows.specs.Tables.{BoxRow};
 
     ghost Value = { BoxRow };
 

@@ -3,7 +3,7 @@ use Rattle.sqlite.specs.declared.types.Value.TheVariants.{Text as Words}
 use Rattle.dip_store_sql.specs.Statements as text
 use Rattle.dip_store_sql.proofs.Texts as means
 use Rattle.dip_store_sql.proofs.Stating as made
-use Rattle.dip_store_tables.specs.Tables.{BallotRow}
+use Rattle.dip_store_rows.specs.Tables.{BallotRow}
 use Rattle.dip_store_sql.specs.Rows.{put_ballot}
 use Rattle.dip_store_sql.specs.Schema.{ballot_table}
 use Rattle.dip_store_sql.specs.Storing.{next_row}

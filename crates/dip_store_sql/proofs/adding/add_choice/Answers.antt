@@ -2,7 +2,7 @@ use Rattle.std.proofs.Common.{[], ◌∷◌, pos, refl}
 use Rattle.sqlite.specs.declared.types.Value.TheVariants.{Int, Text as Words}
 use Rattle.dip_store_sql.specs.Statements as text
 use Rattle.dip_store_sql.proofs.Texts as means
-use Rattle.dip_store_tables.specs.Writing.{choice_row, number_of}
+use Rattle.dip_store_rows.specs.Made.{choice_row, number_of}
 use Rattle.dip_store_sql.proofs.Stating as made
 use Rattle.dip_store_sql.specs.Rows.{put_choice}
 use Rattle.dip_store_sql.specs.Schema.{choice_table}

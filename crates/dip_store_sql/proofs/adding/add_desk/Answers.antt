@@ -1,5 +1,5 @@
 use Rattle.std.proofs.Common.{◌≡◌, [], ◌∷◌, refl}
-use Rattle.dip_store_tables.specs.Tables.{Tables}
+use Rattle.dip_store_rows.specs.Tables.{Tables}
 use Rattle.sqlite.specs.declared.types.Value.TheVariants.{Blob as Bytes}
 use Rattle.dip_store_sql.specs.Statements as text
 use Rattle.dip_store_sql.proofs.Texts as means

@@ -2,7 +2,7 @@ use Rattle.std.proofs.Common.{[], ◌∷◌, pos, refl}
 use Rattle.sqlite.specs.declared.types.Value.TheVariants.{Int, Text as Words}
 use Rattle.dip_store_sql.specs.Statements as text
 use Rattle.dip_store_sql.proofs.Texts as means
-use Rattle.dip_store_tables.specs.Writing.{number_of}
+use Rattle.dip_store_rows.specs.Made.{number_of}
 use Rattle.dip_store_sql.proofs.Stating as made
 use Rattle.dip_store_sql.proofs.Calls.{does_one}
 use Rattle.dip_store_sql.proofs.Wants as want

@@ -1,6 +1,5 @@
 -- The tables, each a list of records with a field a column.
 use Rattle.std.specs.Prelude.{ℕ, Bool, ◌&&◌, List, bytes_eq}
-use Rattle.dip_store_tables.specs.Boards.{UnitRow, CentreRow}
 
 -- the master's row: the tables' version, the SHA-256 of the map's text, the digest of the master's secret, and the last letter
 pub record DeskRow : Type 0 where
@@ -33,6 +32,23 @@ pub record SeatRow : Type 0 where
   pub reply : List ℕ
   pub sent : ℕ
   pub items : ℕ
+
+-- a unit of a game: kind 0 is an army, 1 a fleet; an army has no coast, nor has a fleet where there is but one; the origin is that of a
+-- dislodged unit's attacker, empty where that came by convoy
+pub record UnitRow : Type 0 where
+  pub game : List ℕ
+  pub province : List ℕ
+  pub dislodged : ℕ
+  pub power : List ℕ
+  pub kind : ℕ
+  pub coast : List ℕ
+  pub origin : List ℕ
+
+-- a centre that a power owns
+pub record CentreRow : Type 0 where
+  pub game : List ℕ
+  pub province : List ℕ
+  pub power : List ℕ
 
 -- a standing order
 pub record PendingRow : Type 0 where

@@ -19,14 +19,16 @@ use Rattle.dip_store.specs.StoreFault.{StoreFault}
 use Rattle.dip_judge_words.specs.declared.args.Args.{Args}
 use Rattle.dip_judge_words.specs.declared.args.Args.TheVariants.{Init, Letters, Stored, Serve, Report, Check, Explain, Version}
 use Rattle.dip_judge_words.specs.declared.faults.UsageFault.{UsageFault}
-use Rattle.dip_judge_runs.specs.MapFiles.{IsMapOf}
+use Rattle.dip_judge_runs.specs.MapFiles.{IsMapOf, IsNoMapOf}
+use Rattle.dip_judge_runs.specs.Runs.{IsReadToEnd}
 use Rattle.dip_judge_runs.specs.declared.map_file.NoMap.{NoMap}
 use Rattle.dip_judge.proofs.StoredLemmas.{some_fault}
 use Rattle.clap.specs.Words.{Text}
 use Rattle.dip_judge.specs.Asked.{Fails, IfAsked, IsAskedFor, IsFailed}
-use Rattle.dip_judge.specs.Files.{FromHeld, HasFaults, HeldDesk, IsFoundIn, LeavesStore, StopsStore, TellsOfFile, TellsStore, WasMadeFor, WasOpened, WasShutFor}
-use Rattle.dip_judge.specs.Lasting.{HeldLawful, Lasts, LastsAs, LastsFrom, LastsServing}
-use Rattle.dip_judge.specs.Stores.{TellsOfStore}
+use Rattle.dip_judge.specs.Files.{FromHeld, HasFaults, HeldDesk, IsFoundIn, TellsOfFile, WasMadeFor, WasOpened, WasShutFor}
+use Rattle.dip_judge.specs.Lasting.{HeldLawful, Lasts, LastsFrom, LastsServing}
+use Rattle.dip_judge.specs.OverFiles.{DoesAsked}
+use Rattle.dip_judge.specs.Stores.{ReadsInput, ReadsUpTo, TellsOfStore}
 use Rattle.dip_judge_system.specs.declared.failures.Failure.{Failure}
 use Rattle.dip_judge_system.specs.declared.failures.Failure.TheVariants.{Checking, Listen, Map, NoGame, NoMemory, Negative, Papers, Run, Serving, Store, Usage}
 
@@ -114,27 +116,41 @@ module _ {D : Type 0} {g : disk.Ghosts D} (image : Image) (m : Chart) (first : H
     err_held (Ok x) P does = tt
     err_held (Err e) P does = from_held (P e) does
 
-module _ {S : Type 0} (g : Ghosts S) (image : Image) (m : Chart) (known left before after : Option (List ℕ)) (a b : Args) (is : a ≡ b) (opened : Option (Held S)) (r : Result (Unit {0}) Failure) where
-  -- what is asked for, by another name
-  pub tells_as : (text : List ℕ) → IfSome opened (λ store. TellsStore g image m text b store r) → IfSome opened (λ store. TellsStore g image m text a store r)
-  tells_as text tells = subst (λ a. IfSome opened (λ store. TellsStore g image m text a store r)) (sym is) tells
+-- what is asked for, by another name
+pub does_as : {S : Type 0} (g : Ghosts S) (image : Image) (m : Chart) (text : List ℕ) (known left before after : Option (List ℕ)) (a b : Args) (r : Result (Unit {0}) Failure) (opened : Option (Held S))
+    → a ≡ b → DoesAsked g image m text known left before after b r opened → DoesAsked g image m text known left before after a r opened
+does_as g image m text known left before after a b r opened is does =
+    subst (λ (a : Args). DoesAsked g image m text known left before after a r opened) (sym is) does
 
-  pub lasts_as : (text : List ℕ) → IfSome opened (λ store. LastsAs g image m text b store r) → IfSome opened (λ store. LastsAs g image m text a store r)
-  lasts_as text lasts = subst (λ a. IfSome opened (λ store. LastsAs g image m text a store r)) (sym is) lasts
+-- what is so is so whatever the outcome
+pub ok_so : {A E : Type 0} (r : Result A E) (P : Type 0) → P → OnOk r P
+ok_so (Ok x) P p = p
+ok_so (Err e) P p = tt
 
-  pub leaves_as : OnOk r (LeavesStore g image m known left before after b opened) → OnOk r (LeavesStore g image m known left before after a opened)
-  leaves_as leaves = subst (λ a. OnOk r (LeavesStore g image m known left before after a opened)) (sym is) leaves
+pub err_so : {A E : Type 0} (r : Result A E) (P : E → Type 0) → ((e : E) → P e) → IfErr r P
+err_so (Ok x) P p = tt
+err_so (Err e) P p = p e
 
-  pub stops_as : IfErr r (λ f. StopsStore g image m known left before after b f opened) → IfErr r (λ f. StopsStore g image m known left before after a f opened)
-  stops_as stops = subst (λ a. IfErr r (λ f. StopsStore g image m known left before after a f opened)) (sym is) stops
+-- the input was read to its end, or up to a failure
+pub read_to_end : (known left before after : Option (List ℕ)) (r : Result (Unit {0}) Failure) → ReadsInput known left before after r → OnOk r (IsReadToEnd known left)
+read_to_end known left before after (Ok done) reads = reads
+read_to_end known left before after (Err f) reads = tt
 
--- what is asked for is so whatever the failure
+pub read_up_to : (known left before after : Option (List ℕ)) (r : Result (Unit {0}) Failure) → ReadsInput known left before after r → IfErr r (ReadsUpTo known left before after)
+read_up_to known left before after (Ok done) reads = tt
+read_up_to known left before after (Err f) reads = reads
+
 -- the map of a path and a text is that of those which are the same
 pub map_named_so : (standard : List ℕ) (path named : Option (List ℕ)) (text said : List ℕ) (m : Chart) → path ≡ named → text ≡ said → IsMapOf standard path said m
     → IsMapOf standard named text m
 map_named_so standard path named text said m same_path same_text is =
     subst (λ (p : Option (List ℕ)). IsMapOf standard p text m) same_path (subst (λ (t : List ℕ). IsMapOf standard path t m) (sym same_text) is)
 
+-- and why there is none
+pub no_map_so : (standard : List ℕ) (path named : Option (List ℕ)) (fault : NoMap) → path ≡ named → IsNoMapOf standard path fault → IsNoMapOf standard named fault
+no_map_so standard path named fault same is = subst (λ (p : Option (List ℕ)). IsNoMapOf standard p fault) same is
+
+-- what is asked for is so whatever the failure
 pub if_asked : (standard : List ℕ) (words : List Text) (P : Args → Chart → Type 0) (f : Failure) → IsAskedFor standard words P → IfAsked standard words f P
 if_asked standard words P (Usage fault) asked = tt
 if_asked standard words P (Map fault) asked = tt

@@ -3,3 +3,4 @@ pub mod Files
 pub mod Lasting
 pub mod Commands
 pub mod Asked
+pub mod OverFiles

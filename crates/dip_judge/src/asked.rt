@@ -1,14 +1,9 @@
 //! What the program does with its words: over any files, input and output.
-ghost use Rattle.std.specs.Prelude.{map as each, IfErr, IfSome, OnOk};
+ghost use Rattle.std.specs.Prelude.{map as each, IfErr, OnOk};
 ghost use Rattle.sqlite.specs.Files.{over_files};
 ghost use Rattle.sqlite.specs.WalFiles.{image_at};
-ghost use Rattle.dip_judge.specs.Asked.{Fails, IfAsked, IsAskedFor, IsAskedOver, IsDone, IsFailed, IsInitFailure, Streams};
-ghost use Rattle.dip_judge.specs.Files.{AnswersIn, AnswersUpTo, IfOpened, LeavesStore, MadeIn, ReportsIn, ServesIn, StopsReportIn, StopsServingIn, StopsStore, TellsOfFile, TellsStore, UnmadeIn, WasOpened};
-ghost use Rattle.dip_judge.specs.Lasting.{LastsAs, LastsIn, LastsServing, LeavesLawful};
-ghost use Rattle.dip_judge.specs.Stores.{IsReportFailure, IsServeFailure, ReadsInput};
-ghost use Rattle.dip_judge_system.specs.FileFaults.{IsFindFault, IsOpenFault};
-ghost use Rattle.dip_store.specs.Calls.{is_honest};
-ghost use Rattle.dip_store.specs.Opening.{SaysText};
+ghost use Rattle.dip_judge.specs.Asked.{IsDone, IsFailed};
+ghost use Rattle.dip_judge.specs.OverFiles.{AnswersFile, DoesAsAsked, DoesAsked, InitsFile, ReportsFile, ServesFile};
 
 use crate::stored::{answer_stored, close_file, make_desk, report_stored, serve_stored};
 use dip_desk_machine::new_desks_are_lawful;
@@ -29,15 +24,8 @@ fn init_file<S: Start>(
     text: &str,
     master: &str,
 ) -> (Result<(), Failure>, Option<Stored<S>>)
-    ensures made { OnOk result.0
-        (WasOpened result.1 (MadeIn over_files map.now master.now)) }
-    ensures unmade { IfErr result.0
-        (λ f. IfOpened IsOpenFault f result.1 (UnmadeIn over_files (image_at S.Start))) }
-    ensures failed { IfErr result.0 IsInitFailure }
-    ensures tells { IfSome result.1 (λ store. is_honest over_files store
-        → OnOk result.0 (SaysText over_files text.now store)) }
-    ensures lasts { IfSome result.1 (λ store. is_honest over_files store
-        → OnOk result.0 (LeavesLawful over_files map.now text.now store)) }
+    ensures { InitsFile over_files (image_at S.Start) map.now text.now master.now result.0
+        result.1 }
 {
     new_desks_are_lawful();
     match system.open_new(start, path) {
@@ -59,18 +47,8 @@ fn answer_file<S: Start, R: Read, W: Write>(
     reader: &mut R,
     writer: &mut W,
 ) -> (Result<(), Failure>, Option<Stored<S>>)
-    ensures done { OnOk result.0 (WasOpened result.1 (AnswersIn over_files (image_at S.Start)
-        map.now (R.remaining reader.old) (R.remaining reader.new) (W.contents writer.old)
-        (W.contents writer.new))) }
-    ensures stops { IfErr result.0 (λ f. IfOpened IsFindFault f result.1
-        (AnswersUpTo over_files (image_at S.Start) map.now (R.remaining reader.old)
-        (R.remaining reader.new) (W.contents writer.old) (W.contents writer.new) f)) }
-    ensures reads { ReadsInput (R.remaining reader.old) (R.remaining reader.new)
-        (W.contents writer.old) (W.contents writer.new) result.0 }
-    ensures tells { IfSome result.1 (λ store.
-        TellsOfFile over_files (image_at S.Start) map.now text.now store result.0) }
-    ensures lasts { IfSome result.1 (λ store.
-        LastsIn over_files (image_at S.Start) map.now text.now store result.0) }
+    ensures { AnswersFile over_files (image_at S.Start) map.now text.now (R.remaining reader.old)
+        (R.remaining reader.new) (W.contents writer.old) (W.contents writer.new) result.0 result.1 }
 {
     match system.open_present(start, path) {
         Err(fault) => (Err(Failure::Store(fault)), None),
@@ -91,15 +69,7 @@ fn serve_file<S: Start>(
     port: u16,
     count: u32,
 ) -> (Result<(), Failure>, Option<Stored<S>>)
-    ensures done { OnOk result.0
-        (WasOpened result.1 (ServesIn over_files (image_at S.Start) map.now count)) }
-    ensures stops { IfErr result.0 (λ f. IfOpened IsFindFault f result.1
-        (StopsServingIn over_files (image_at S.Start) map.now count f)) }
-    ensures failed { IfErr result.0 IsServeFailure }
-    ensures tells { IfSome result.1 (λ store.
-        TellsOfFile over_files (image_at S.Start) map.now text.now store result.0) }
-    ensures lasts { IfSome result.1 (λ store.
-        LastsServing over_files (image_at S.Start) map.now text.now store result.0) }
+    ensures { ServesFile over_files (image_at S.Start) map.now text.now count result.0 result.1 }
 {
     match system.open_present(start, path) {
         Err(fault) => (Err(Failure::Store(fault)), None),
@@ -120,16 +90,8 @@ fn report_file<S: Start, W: Write>(
     game: &str,
     writer: &mut W,
 ) -> (Result<(), Failure>, Option<Stored<S>>)
-    ensures done { OnOk result.0 (WasOpened result.1 (ReportsIn over_files (image_at S.Start)
-        map.now game.now (W.contents writer.old) (W.contents writer.new))) }
-    ensures stops { IfErr result.0 (λ f. IfOpened IsFindFault f result.1
-        (StopsReportIn over_files (image_at S.Start) map.now game.now (W.contents writer.old)
-        (W.contents writer.new) f)) }
-    ensures failed { IfErr result.0 IsReportFailure }
-    ensures tells { IfSome result.1 (λ store.
-        TellsOfFile over_files (image_at S.Start) map.now text.now store result.0) }
-    ensures lasts { IfSome result.1 (λ store.
-        LastsIn over_files (image_at S.Start) map.now text.now store result.0) }
+    ensures { ReportsFile over_files (image_at S.Start) map.now text.now game.now
+        (W.contents writer.old) (W.contents writer.new) result.0 result.1 }
 {
     match system.open_present(start, path) {
         Err(fault) => (Err(Failure::Store(fault)), None),
@@ -150,20 +112,9 @@ fn do_asked<S: Start, R: Read, W: Write>(
     reader: &mut R,
     writer: &mut W,
 ) -> (Result<(), Failure>, Option<Stored<S>>)
-    ensures done { OnOk result.0 (Streams map.now (R.remaining reader.old) (R.remaining reader.new)
-        (W.contents writer.old) (W.contents writer.new) args.now) }
-    ensures failed { IfErr result.0 (Fails map.now (R.remaining reader.old)
-        (R.remaining reader.new) (W.contents writer.old) (W.contents writer.new) args.now) }
-    ensures leaves { OnOk result.0 (LeavesStore over_files (image_at S.Start) map.now
-        (R.remaining reader.old) (R.remaining reader.new) (W.contents writer.old)
-        (W.contents writer.new) args.now result.1) }
-    ensures stops { IfErr result.0 (λ f. StopsStore over_files (image_at S.Start) map.now
-        (R.remaining reader.old) (R.remaining reader.new) (W.contents writer.old)
-        (W.contents writer.new) args.now f result.1) }
-    ensures tells { IfSome result.1 (λ store.
-        TellsStore over_files (image_at S.Start) map.now text.now args.now store result.0) }
-    ensures lasts { IfSome result.1 (λ store.
-        LastsAs over_files (image_at S.Start) map.now text.now args.now store result.0) }
+    ensures { DoesAsked over_files (image_at S.Start) map.now text.now (R.remaining reader.old)
+        (R.remaining reader.new) (W.contents writer.old) (W.contents writer.new) args.now result.0
+        result.1 }
 {
     match args {
         Args::Init { store, master, .. } => init_file(system, start, store, map, text, master),
@@ -204,24 +155,9 @@ pub fn do_as_asked<S: Start, R: Read, W: Write>(
     reader: &mut R,
     writer: &mut W,
 ) -> (Result<(), Failure>, Option<Stored<S>>)
-    ensures done { OnOk result.0 (IsDone STANDARD.now (each (λ w. w.now) words.entry.now)
-        (R.remaining reader.old) (R.remaining reader.new) (W.contents writer.old)
-        (W.contents writer.new)) }
-    ensures failed { IfErr result.0 (IsFailed STANDARD.now (each (λ w. w.now) words.entry.now)
-        (R.remaining reader.old) (R.remaining reader.new) (W.contents writer.old)
-        (W.contents writer.new)) }
-    ensures leaves { OnOk result.0 (IsAskedFor STANDARD.now (each (λ w. w.now) words.entry.now)
-        (λ a m. LeavesStore over_files (image_at S.Start) m (R.remaining reader.old)
-        (R.remaining reader.new) (W.contents writer.old) (W.contents writer.new) a result.1)) }
-    ensures tells { IfSome result.1 (λ store. IsAskedOver STANDARD.now
-        (each (λ w. w.now) words.entry.now)
-        (λ a m text. TellsStore over_files (image_at S.Start) m text a store result.0)) }
-    ensures lasts { IfSome result.1 (λ store. IsAskedOver STANDARD.now
-        (each (λ w. w.now) words.entry.now)
-        (λ a m text. LastsAs over_files (image_at S.Start) m text a store result.0)) }
-    ensures stops { IfErr result.0 (λ f. IfAsked STANDARD.now (each (λ w. w.now) words.entry.now) f
-        (λ a m. StopsStore over_files (image_at S.Start) m (R.remaining reader.old)
-        (R.remaining reader.new) (W.contents writer.old) (W.contents writer.new) a f result.1)) }
+    ensures { DoesAsAsked over_files (image_at S.Start) STANDARD.now
+        (each (λ w. w.now) words.entry.now) (R.remaining reader.old) (R.remaining reader.new)
+        (W.contents writer.old) (W.contents writer.new) result.0 result.1 }
 {
     let alloc = system.alloc();
     match read_args(alloc, words) {

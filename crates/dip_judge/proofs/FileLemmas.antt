@@ -1,6 +1,7 @@
 -- From what a file held to what its store says after a command.
-use Rattle.std.proofs.Common.{◌≡◌, ◌∙◌, ◌⊎◌, Err, IfErr, IfSome, List, OnOk, Ok, Option, Result, Some, inl, inr, subst, sym, ℕ}
+use Rattle.std.proofs.Common.{◌≡◌, ◌∙◌, ◌⊎◌, Err, IfErr, List, None, OnOk, Ok, Option, Result, Some, ap, inl, inr, refl, subst, sym, ℕ}
 use Rattle.std.proofs.lemmas.Bool.{false≢true}
+use Rattle.std.proofs.lemmas.Result.{IfErr-weaker, on_ok_weaker}
 use Rattle.sqlite_disk.specs.declared.Disk as disk
 use Rattle.sqlite.specs.Store.{Ghosts}
 use Rattle.sqlite.specs.declared.FileStore.{FileStore}
@@ -12,9 +13,10 @@ use Rattle.sqlite.specs.Start.{FindsIn}
 use Rattle.sqlite.specs.State.{HasCleanDisk}
 use Rattle.dip_map.specs.Charts.{Chart}
 use Rattle.dip_desk_state.specs.State.{State}
+use Rattle.dip_desk_machine.specs.Lawful.{IsLawful}
 use Rattle.dip_store.specs.Calls.{is_honest}
 use Rattle.dip_store.specs.Causes.{has_faulted}
-use Rattle.dip_store.specs.Opening.{IsDesk, IsMadeForText, IsNowOf, IsShutBy, IsShutFor}
+use Rattle.dip_store.specs.Opening.{Holds, IsDesk, IsMadeForText, IsNowOf, IsShutBy}
 use Rattle.dip_store.specs.StoreFault.{StoreFault}
 use Rattle.dip_judge_words.specs.declared.args.Args.{Args}
 use Rattle.dip_judge_words.specs.declared.args.Args.TheVariants.{Init, Letters, Stored, Serve, Report, Check, Explain, Version}
@@ -22,13 +24,18 @@ use Rattle.dip_judge_words.specs.declared.faults.UsageFault.{UsageFault}
 use Rattle.dip_judge_runs.specs.MapFiles.{IsMapOf, IsNoMapOf}
 use Rattle.dip_judge_runs.specs.Runs.{IsReadToEnd}
 use Rattle.dip_judge_runs.specs.declared.map_file.NoMap.{NoMap}
-use Rattle.dip_judge.proofs.StoredLemmas.{some_fault}
+use Rattle.dip_judge_runs.specs.Fresh.{fresh_desk}
+use Rattle.dip_judge.proofs.LastingLemmas.{holds_lawful}
+use Rattle.dip_judge.proofs.StoredLemmas.{report_as, serves_as, serving_as, some_fault, stops_as_of}
+use Rattle.dip_judge.specs.declared.stored.StoreCommand.{StoreCommand}
+use Rattle.dip_judge.specs.declared.stored.StoreCommand.TheVariants as command
+use Rattle.dip_judge.specs.Commands.{AnswersStored, DoesStored, MakesDesk, ReportsStored, ServesStored, as_told}
 use Rattle.clap.specs.Words.{Text}
 use Rattle.dip_judge.specs.Asked.{Fails, IfAsked, IsAskedFor, IsFailed}
 use Rattle.dip_judge.specs.Files.{FromHeld, HasFaults, HeldDesk, IsFoundIn, TellsOfFile, WasMadeFor, WasOpened, WasShutFor}
 use Rattle.dip_judge.specs.Lasting.{HeldLawful, Lasts, LastsFrom, LastsServing}
-use Rattle.dip_judge.specs.OverFiles.{DoesAsked}
-use Rattle.dip_judge.specs.Stores.{ReadsInput, ReadsUpTo, TellsOfStore}
+use Rattle.dip_judge.specs.OverFiles.{AnswersFile, DoesAsked, DoesOverFile, InitsFile, IsFaultOf, ReportsFile, ServesFile}
+use Rattle.dip_judge.specs.Stores.{AnswersFrom, ReadsInput, ReadsUpTo, Reports, ServesFrom, StopsFrom, StopsReport, StopsServing, TellsOfStore}
 use Rattle.dip_judge_system.specs.declared.failures.Failure.{Failure}
 use Rattle.dip_judge_system.specs.declared.failures.Failure.TheVariants.{Checking, Listen, Map, NoGame, NoMemory, Negative, Papers, Run, Serving, Store, Usage}
 
@@ -115,6 +122,85 @@ module _ {D : Type 0} {g : disk.Ghosts D} (image : Image) (m : Chart) (first : H
         → IfErr r (λ e. FromHeld over_files image m (P e) last)
     err_held (Ok x) P does = tt
     err_held (Err e) P does = from_held (P e) does
+
+  -- a command over an opened store is one over its file
+  module _ (text : List ℕ) (last : Held (FileStore D g)) where
+    inits : (master : List ℕ) → IsLawful m (fresh_desk master) → (made : Result (Unit {0}) StoreFault) → MakesDesk over_files m text master first last made
+        → InitsFile over_files image m text master (as_told made) (Some last)
+    inits master law (Ok done) it = record {
+      made = λ clean. (it.made clean).0;
+      unmade = tt;
+      failed = tt;
+      tells = λ clean. (it.made clean).1;
+      lasts = λ clean. holds_lawful over_files m text (fresh_desk master) last law (it.made clean).2 (it.made clean).0;
+    }
+    inits master law (Err fault) it = record {
+      made = tt;
+      unmade = λ shows db holds. ap (λ (d : Database). d.trees) (it.same shows) ∙ (found (it.fair shows)).holds db holds;
+      failed = tt;
+      tells = λ clean. tt;
+      lasts = λ clean. tt;
+    }
+
+    answers : (known left before after : Option (List ℕ)) (r : Result (Unit {0}) Failure) → AnswersStored over_files m text first last known left before after r
+        → AnswersFile over_files image m text known left before after r (Some last)
+    answers known left before after r it = record {
+      done = ok_held last it.fair r (λ s new. AnswersFrom over_files m s new known left before after) (λ clean s desk. it.done clean s desk.says);
+      stops = err_held last it.fair r (λ f s new. StopsFrom over_files m (HasFaults over_files new) (IsFoundIn image) s new known left before after f)
+          (λ clean s desk. IfErr-weaker r _ _
+          (stops_as_of over_files m (has_faulted over_files first last) (HasFaults over_files last) (some_fault over_files first last) (IsNowOf over_files first) (IsFoundIn image)
+          (found_there (it.fair clean)) s last known left before after)
+          (it.stops clean s desk));
+      reads = it.reads;
+      tells = tells_of_file text last it.fair r it.tells;
+      lasts = lasts_in last it.fair text _ it.lasts;
+    }
+
+    serves : (count : ℕ) (r : Result (Unit {0}) Failure) → ServesStored over_files m text count first last r → ServesFile over_files image m text count r (Some last)
+    serves count r it = record {
+      done = ok_held last it.fair r (λ s new. ServesFrom over_files m (HasFaults over_files new) count s new)
+          (λ clean s desk. on_ok_weaker r (serves_as over_files m (has_faulted over_files first last) (HasFaults over_files last) (some_fault over_files first last) s last count) (it.done clean s desk.says));
+      stops = err_held last it.fair r (λ f s new. StopsServing over_files m (HasFaults over_files new) (IsFoundIn image) count s new f)
+          (λ clean s desk. IfErr-weaker r _ _
+          (serving_as over_files m (has_faulted over_files first last) (HasFaults over_files last) (some_fault over_files first last) (IsNowOf over_files first) (IsFoundIn image)
+          (found_there (it.fair clean)) s last count)
+          (it.stops clean s desk));
+      failed = it.failed;
+      tells = tells_of_file text last it.fair r it.tells;
+      lasts = lasts_serving last it.fair text r it.lasts;
+    }
+
+    reports_of : (game : List ℕ) (before after : Option (List ℕ)) (r : Result (Unit {0}) Failure) → ReportsStored over_files m text game first last before after r
+        → ReportsFile over_files image m text game before after r (Some last)
+    reports_of game before after r it = record {
+      done = ok_held last it.fair r (λ s new. Reports game s before after × Holds over_files m s new) (λ clean s desk. it.done clean s desk.says);
+      stops = err_held last it.fair r (λ f s new. StopsReport over_files m (HasFaults over_files new) (IsFoundIn image) game s new before after f)
+          (λ clean s desk. IfErr-weaker r _ _
+          (report_as over_files m (has_faulted over_files first last) (HasFaults over_files last) (some_fault over_files first last) (IsNowOf over_files first) (IsFoundIn image)
+          (found_there (it.fair clean)) s last game before after)
+          (it.stops clean s desk));
+      failed = it.failed;
+      tells = tells_of_file text last it.fair r it.tells;
+      lasts = lasts_in last it.fair text _ it.lasts;
+    }
+
+    pub over_file : ((master : List ℕ) → IsLawful m (fresh_desk master)) → (known left before after : Option (List ℕ)) (command : StoreCommand) (r : Result (Unit {0}) Failure)
+        → DoesStored over_files m text known left before after command first last r → DoesOverFile over_files image m text known left before after command r (Some last)
+    over_file law known left before after (command.Init master) r it = (
+      subst (λ (r : Result (Unit {0}) Failure). InitsFile over_files image m text master.now r (Some last)) (sym it.0.1) (inits master.now (law master.now) it.0.0 it.0.2),
+      it.1,
+    )
+    over_file law known left before after command.Letters r it = answers known left before after r it
+    over_file law known left before after (command.Serve port count) r it = (serves count r it.0, it.1)
+    over_file law known left before after (command.Report game) r it = (reports_of game.now before after r it.0, it.1)
+
+-- a file that isn't opened is left as it is
+pub unopened : {S : Type 0} (g : Ghosts S) (image : Image) (m : Chart) (text : List ℕ) (known before : Option (List ℕ)) (command : StoreCommand) (fault : StoreFault) → IsFaultOf command fault
+    → DoesOverFile g image m text known known before before command (Err (Store fault)) None
+unopened g image m text known before (command.Init master) fault is = (record { made = tt; unmade = is; failed = tt; tells = tt; lasts = tt }, (refl, refl))
+unopened g image m text known before command.Letters fault is = record { done = tt; stops = is; reads = (refl, refl); tells = tt; lasts = tt }
+unopened g image m text known before (command.Serve port count) fault is = (record { done = tt; stops = is; failed = tt; tells = tt; lasts = tt }, (refl, refl))
+unopened g image m text known before (command.Report game) fault is = (record { done = tt; stops = is; failed = tt; tells = tt; lasts = tt }, refl)
 
 -- what is asked for, by another name
 pub does_as : {S : Type 0} (g : Ghosts S) (image : Image) (m : Chart) (text : List ℕ) (known left before after : Option (List ℕ)) (a b : Args) (r : Result (Unit {0}) Failure) (opened : Option (Held S))

@@ -1,5 +1,5 @@
 -- A lawful desk lasts.
-use Rattle.std.proofs.Common.{◌≡◌, ◌≤◌, ◌<◌, ◌⊎◌, Err, IfErr, List, None, Ok, Option, Result, Some, ap, arith, bytes_eq, inl, inr, length, refl, subst, sym, ℕ}
+use Rattle.std.proofs.Common.{◌≡◌, ◌≤◌, ◌<◌, ◌⊎◌, Err, IfErr, List, None, Option, Result, Some, ap, arith, bytes_eq, inl, inr, length, refl, subst, sym, ℕ}
 use Rattle.sqlite.specs.Effect.{Database}
 use Rattle.sqlite.specs.Held.{Held, state}
 use Rattle.sqlite.specs.Store.{Ghosts}

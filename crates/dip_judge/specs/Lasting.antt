@@ -1,5 +1,5 @@
 -- What lasts from run to run: a desk whose rows a judge alone wrote stays one, of the same map, and none of them is Damaged.
-use Rattle.std.specs.Prelude.{◌⊎◌, Err, IfErr, List, Ok, OnOk, Result, ℕ}
+use Rattle.std.specs.Prelude.{◌⊎◌, IfErr, List, OnOk, Result, ℕ}
 use Rattle.sqlite.specs.Effect.{Database}
 use Rattle.sqlite.specs.Held.{Held, state}
 use Rattle.sqlite.specs.Recovery.{Image}

@@ -1,5 +1,5 @@
 -- What each command comes to over the store of a file, and whatever the words ask for: what it does and leaves, and what it fails by.
-use Rattle.std.specs.Prelude.{ℕ, IfErr, IfSome, List, OnOk, Option, Result}
+use Rattle.std.specs.Prelude.{◌≡◌, ℕ, IfErr, IfSome, List, OnOk, Option, Result}
 use Rattle.clap.specs.Words.{Text}
 use Rattle.sqlite.specs.Held.{Held}
 use Rattle.sqlite.specs.Recovery.{Image}
@@ -10,10 +10,13 @@ use Rattle.dip_judge_system.specs.declared.failures.Failure.{Failure}
 use Rattle.dip_judge_words.specs.declared.args.Args.{Args}
 use Rattle.dip_store.specs.Calls.{is_honest}
 use Rattle.dip_store.specs.Opening.{SaysText}
+use Rattle.dip_store.specs.StoreFault.{StoreFault}
+use Rattle.dip_judge.specs.declared.stored.StoreCommand.{StoreCommand}
+use Rattle.dip_judge.specs.declared.stored.StoreCommand.TheVariants.{Init, Letters, Serve, Report}
 use Rattle.dip_judge.specs.Asked.{Fails, IfAsked, IsAskedFor, IsAskedOver, IsDone, IsFailed, IsInitFailure, Streams}
 use Rattle.dip_judge.specs.Files.{AnswersIn, AnswersUpTo, IfOpened, LeavesStore, MadeIn, ReportsIn, ServesIn, StopsReportIn, StopsServingIn, StopsStore, TellsOfFile, TellsStore, UnmadeIn, WasOpened}
 use Rattle.dip_judge.specs.Lasting.{LastsAs, LastsIn, LastsServing, LeavesLawful}
-use Rattle.dip_judge.specs.Stores.{IsReportFailure, IsServeFailure, ReadsInput}
+use Rattle.dip_judge.specs.Stores.{IsIdle, IsReportFailure, IsServeFailure, ReadsInput}
 
 -- how a desk is made in the store of a file, for the map of this text, whose master has this secret
 pub record InitsFile {S : Type 0} (g : Ghosts S) (image : Image) (m : Chart) (text master : List ℕ)
@@ -54,6 +57,26 @@ pub record ServesFile {S : Type 0} (g : Ghosts S) (image : Image) (m : Chart) (t
   pub failed : IfErr result IsServeFailure
   pub tells : IfSome opened (λ store. TellsOfFile g image m text store result)
   pub lasts : IfSome opened (λ store. LastsServing g image m text store result)
+
+-- why the file of a command isn't opened: one that is to be there isn't found, too
+abbrev pub IsFaultOf : StoreCommand → StoreFault → Type 0
+IsFaultOf (Init master) = IsOpenFault
+IsFaultOf Letters = IsFindFault
+IsFaultOf (Serve port count) = IsFindFault
+IsFaultOf (Report game) = IsFindFault
+
+module _ {S : Type 0} (g : Ghosts S) (image : Image) (m : Chart) (text : List ℕ) where
+  -- how a command is done over the store of a file, and what it reads and writes
+  abbrev pub DoesOverFile : Option (List ℕ) → Option (List ℕ) → Option (List ℕ) → Option (List ℕ)
+      → StoreCommand → Result (Unit {0}) Failure → Option (Held S) → Type 0
+  DoesOverFile known left before after (Init master) result opened =
+      InitsFile g image m text master.now result opened × IsIdle known left before after
+  DoesOverFile known left before after Letters result opened =
+      AnswersFile g image m text known left before after result opened
+  DoesOverFile known left before after (Serve port count) result opened =
+      ServesFile g image m text count result opened × IsIdle known left before after
+  DoesOverFile known left before after (Report game) result opened =
+      ReportsFile g image m text game.now before after result opened × (left ≡ known)
 
 -- how that is done which is asked for, by the map of this text
 pub record DoesAsked {S : Type 0} (g : Ghosts S) (image : Image) (m : Chart) (text : List ℕ)

@@ -3,10 +3,10 @@ ghost use Rattle.std.specs.Prelude.{map as each, IfErr, OnOk};
 ghost use Rattle.sqlite.specs.Files.{over_files};
 ghost use Rattle.sqlite.specs.WalFiles.{image_at};
 ghost use Rattle.dip_judge.specs.Asked.{IsDone, IsFailed};
-ghost use Rattle.dip_judge.specs.OverFiles.{AnswersFile, DoesAsAsked, DoesAsked, InitsFile, ReportsFile, ServesFile};
+ghost use Rattle.dip_judge.specs.OverFiles.{DoesAsAsked, DoesAsked};
 
-use crate::stored::{answer_stored, close_file, make_desk, report_stored, serve_stored};
-use dip_desk_machine::new_desks_are_lawful;
+use crate::files::{close_file, do_over_file};
+use crate::stored::StoreCommand;
 use dip_judge_runs::{answer_letters, text_said};
 use dip_judge_system::{Failure, Stored, System, check, explain, write_version};
 use dip_judge_words::{Args, read_args};
@@ -14,93 +14,6 @@ use dip_map::Map;
 use dip_map_text::STANDARD;
 use sqlite::Start;
 use std::io::{Read, Write};
-
-/// Makes a desk in the store of a file, which is handed back where it was opened.
-fn init_file<S: Start>(
-    system: &System<'_>,
-    start: S,
-    path: &str,
-    map: &Map,
-    text: &str,
-    master: &str,
-) -> (Result<(), Failure>, Option<Stored<S>>)
-    ensures { InitsFile over_files (image_at S.Start) map.now text.now master.now result.0
-        result.1 }
-{
-    new_desks_are_lawful();
-    match system.open_new(start, path) {
-        Err(fault) => (Err(Failure::Store(fault)), None),
-        Ok(store) => match make_desk(system.alloc(), store, map, text, master) {
-            (Ok(()), store) => (Ok(()), Some(store)),
-            (Err(fault), store) => (Err(Failure::Store(fault)), Some(store)),
-        },
-    }
-}
-
-/// Answers the letters of a reader from the desk of a file on. The store is handed back where it was opened.
-fn answer_file<S: Start, R: Read, W: Write>(
-    system: &System<'_>,
-    start: S,
-    path: &str,
-    map: &Map,
-    text: &str,
-    reader: &mut R,
-    writer: &mut W,
-) -> (Result<(), Failure>, Option<Stored<S>>)
-    ensures { AnswersFile over_files (image_at S.Start) map.now text.now (R.remaining reader.old)
-        (R.remaining reader.new) (W.contents writer.old) (W.contents writer.new) result.0 result.1 }
-{
-    match system.open_present(start, path) {
-        Err(fault) => (Err(Failure::Store(fault)), None),
-        Ok(store) => {
-            let (answered, store) = answer_stored(system.alloc(), store, map, text, reader, writer);
-            (answered, Some(store))
-        }
-    }
-}
-
-/// Serves so many clients on a port from the desk of a file on. The store is handed back where it was opened.
-fn serve_file<S: Start>(
-    system: &System<'_>,
-    start: S,
-    path: &str,
-    map: &Map,
-    text: &str,
-    port: u16,
-    count: u32,
-) -> (Result<(), Failure>, Option<Stored<S>>)
-    ensures { ServesFile over_files (image_at S.Start) map.now text.now count result.0 result.1 }
-{
-    match system.open_present(start, path) {
-        Err(fault) => (Err(Failure::Store(fault)), None),
-        Ok(store) => {
-            let (served, store) = serve_stored(system, store, map, text, port, count);
-            (served, Some(store))
-        }
-    }
-}
-
-/// Writes all papers of a game of the desk of a file. The store is handed back where it was opened.
-fn report_file<S: Start, W: Write>(
-    system: &System<'_>,
-    start: S,
-    path: &str,
-    map: &Map,
-    text: &str,
-    game: &str,
-    writer: &mut W,
-) -> (Result<(), Failure>, Option<Stored<S>>)
-    ensures { ReportsFile over_files (image_at S.Start) map.now text.now game.now
-        (W.contents writer.old) (W.contents writer.new) result.0 result.1 }
-{
-    match system.open_present(start, path) {
-        Err(fault) => (Err(Failure::Store(fault)), None),
-        Ok(store) => {
-            let (reported, store) = report_stored(system.alloc(), store, map, text, game, writer);
-            (reported, Some(store))
-        }
-    }
-}
 
 /// Does what is asked for, over a map of which this is the text.
 fn do_asked<S: Start, R: Read, W: Write>(
@@ -117,22 +30,35 @@ fn do_asked<S: Start, R: Read, W: Write>(
         result.1 }
 {
     match args {
-        Args::Init { store, master, .. } => init_file(system, start, store, map, text, master),
+        Args::Init { store, master, .. } => {
+            let command = StoreCommand::Init { master };
+            do_over_file(system, start, store, command, map, text, reader, writer)
+        }
         Args::Letters { master, .. } => {
             match answer_letters(system.alloc(), reader, writer, master, map) {
                 Ok(()) => (Ok(()), None),
                 Err(fault) => (Err(Failure::Run(fault)), None),
             }
         }
-        Args::Stored { store, .. } => answer_file(system, start, store, map, text, reader, writer),
+        Args::Stored { store, .. } => {
+            let command = StoreCommand::Letters;
+            do_over_file(system, start, store, command, map, text, reader, writer)
+        }
         Args::Serve {
             store,
             port,
             count,
             ..
-        } => serve_file(system, start, store, map, text, *port, *count),
+        } => {
+            let command = StoreCommand::Serve {
+                port: *port,
+                count: *count,
+            };
+            do_over_file(system, start, store, command, map, text, reader, writer)
+        }
         Args::Report { store, game, .. } => {
-            report_file(system, start, store, map, text, game, writer)
+            let command = StoreCommand::Report { game };
+            do_over_file(system, start, store, command, map, text, reader, writer)
         }
         Args::Check { .. } => (check(system.alloc(), reader, writer, system, map), None),
         Args::Explain { paper, .. } => (explain(system.alloc(), reader, writer, map, *paper), None),

@@ -1,16 +1,29 @@
 //! What is done over a store: a desk is made, letters are answered, clients served, a game's papers written out.
-ghost use Rattle.dip_judge.specs.Commands.{AnswersStored, MakesDesk, ReportsStored, ServesStored};
+ghost use Rattle.dip_judge.specs.Commands.{AnswersStored, DoesStored, MakesDesk, ReportsStored, ServesStored};
 
 use dip_desk_machine::lawful_states_stay_lawful;
 use dip_http::{Routes, serve_all};
 use dip_judge_runs::run_file;
-use dip_judge_system::{Failure, Stored, System};
+use dip_judge_system::{Failure, System};
 use dip_letters::digest;
 use dip_map::Map;
 use dip_store::{SqlKeeper, StoreFault};
-use sqlite::{Alter, Connection, Start};
+use sqlite::{Alter, Connection};
 use std::alloc::Global;
 use std::io::{Read, Write};
+
+/// What is done over a store.
+#[derive(Clone, Copy)]
+pub(crate) enum StoreCommand<'a> {
+    /// A desk is made, whose master has this secret.
+    Init { master: &'a str },
+    /// Letters are answered.
+    Letters,
+    /// So many clients are served on this port.
+    Serve { port: u16, count: u32 },
+    /// All papers of this game are written.
+    Report { game: &'a str },
+}
 
 /// Makes a desk in an empty store, whose master has this secret, for the map of this text. The store is handed back.
 ///
@@ -87,7 +100,7 @@ pub fn report_stored<S: Alter, W: Write>(
 ///
 /// # Errors
 /// The store's fault; want of memory; the port can't be listened on; else the keeper's fault, `Disk` or `Damaged`.
-pub(crate) fn serve_stored<S: Alter>(
+fn serve_stored<S: Alter>(
     system: &System<'_>,
     store: Connection<S>,
     map: &Map,
@@ -118,7 +131,33 @@ pub(crate) fn serve_stored<S: Alter>(
     }
 }
 
-/// Closes a store's file. What is committed stays committed, whatever closing it comes to.
-pub(crate) fn close_file<S: Start>(store: Stored<S>) {
-    let _ = store.close();
+/// Does a command over a store, for the map of this text. The store is handed back.
+///
+/// # Errors
+/// Those of the call that does it.
+pub(crate) fn do_stored<S: Alter, R: Read, W: Write>(
+    system: &System<'_>,
+    store: Connection<S>,
+    command: StoreCommand<'_>,
+    map: &Map,
+    text: &str,
+    reader: &mut R,
+    writer: &mut W,
+) -> (Result<(), Failure>, Connection<S>)
+    ensures { DoesStored S.Store map.now text.now (R.remaining reader.old)
+        (R.remaining reader.new) (W.contents writer.old) (W.contents writer.new) command.entry
+        store result.1 result.0 }
+{
+    let alloc = system.alloc();
+    match command {
+        StoreCommand::Init { master } => match make_desk(alloc, store, map, text, master) {
+            (Ok(()), store) => (Ok(()), store),
+            (Err(fault), store) => (Err(Failure::Store(fault)), store),
+        },
+        StoreCommand::Letters => answer_stored(alloc, store, map, text, reader, writer),
+        StoreCommand::Serve { port, count } => {
+            serve_stored(system, store, map, text, port, count)
+        }
+        StoreCommand::Report { game } => report_stored(alloc, store, map, text, game, writer),
+    }
 }

@@ -1,5 +1,4 @@
 -- What is asked for, arm by arm.
-use Rattle.std.proofs.Common.{refl}
 use Rattle.std.proofs.lemmas.Result.{IfErr-weaker}
 use Rattle.sqlite.specs.Files.{over_files}
 use Rattle.sqlite.specs.WalFiles.{image_at}
@@ -8,12 +7,12 @@ use Rattle.dip_judge.proofs.asked.do_asked.Goals as goal
 
 pub returns-in-Init : goal.returns-in-Init
 returns-in-Init g c =
-    let does = c.init_file.ensures in
-    let r = c.init_file.result.0 in
-    does_as over_files (image_at g.S.Start) c.args.map.now c.args.text.now _ _ _ _ c.args.args.now _ r c.init_file.result.1 c.in-Init.is
+    let does = c.do_over_file.ensures.0 in
+    let r = c.do_over_file.result.0 in
+    does_as over_files (image_at g.S.Start) c.args.map.now c.args.text.now _ _ _ _ c.args.args.now _ r c.do_over_file.result.1 c.in-Init.is
     (record {
-      done = ok_so r _ (refl, refl);
-      failed = IfErr-weaker r _ _ (λ f is. (is, (refl, refl))) does.failed;
+      done = ok_so r _ c.do_over_file.ensures.1;
+      failed = IfErr-weaker r _ _ (λ f is. (is, c.do_over_file.ensures.1)) does.failed;
       leaves = does.made;
       stops = does.unmade;
       tells = does.tells;
@@ -22,9 +21,9 @@ returns-in-Init g c =
 
 pub returns-in-Stored : goal.returns-in-Stored
 returns-in-Stored g c =
-    let does = c.answer_file.ensures in
-    let r = c.answer_file.result.0 in
-    does_as over_files (image_at g.S.Start) c.args.map.now c.args.text.now _ _ _ _ c.args.args.now _ r c.answer_file.result.1 c.in-Stored.is
+    let does = c.do_over_file-in-Stored.ensures in
+    let r = c.do_over_file-in-Stored.result.0 in
+    does_as over_files (image_at g.S.Start) c.args.map.now c.args.text.now _ _ _ _ c.args.args.now _ r c.do_over_file-in-Stored.result.1 c.in-Stored.is
     (record {
       done = read_to_end _ _ _ _ r does.reads;
       failed = read_up_to _ _ _ _ r does.reads;
@@ -36,12 +35,12 @@ returns-in-Stored g c =
 
 pub returns-in-Serve : goal.returns-in-Serve
 returns-in-Serve g c =
-    let does = c.serve_file.ensures in
-    let r = c.serve_file.result.0 in
-    does_as over_files (image_at g.S.Start) c.args.map.now c.args.text.now _ _ _ _ c.args.args.now _ r c.serve_file.result.1 c.in-Serve.is
+    let does = c.do_over_file-in-Serve.ensures.0 in
+    let r = c.do_over_file-in-Serve.result.0 in
+    does_as over_files (image_at g.S.Start) c.args.map.now c.args.text.now _ _ _ _ c.args.args.now _ r c.do_over_file-in-Serve.result.1 c.in-Serve.is
     (record {
-      done = ok_so r _ (refl, refl);
-      failed = IfErr-weaker r _ _ (λ f is. (is, (refl, refl))) does.failed;
+      done = ok_so r _ c.do_over_file-in-Serve.ensures.1;
+      failed = IfErr-weaker r _ _ (λ f is. (is, c.do_over_file-in-Serve.ensures.1)) does.failed;
       leaves = does.done;
       stops = does.stops;
       tells = does.tells;
@@ -50,12 +49,12 @@ returns-in-Serve g c =
 
 pub returns-in-Report : goal.returns-in-Report
 returns-in-Report g c =
-    let does = c.report_file.ensures in
-    let r = c.report_file.result.0 in
-    does_as over_files (image_at g.S.Start) c.args.map.now c.args.text.now _ _ _ _ c.args.args.now _ r c.report_file.result.1 c.in-Report.is
+    let does = c.do_over_file-in-Report.ensures.0 in
+    let r = c.do_over_file-in-Report.result.0 in
+    does_as over_files (image_at g.S.Start) c.args.map.now c.args.text.now _ _ _ _ c.args.args.now _ r c.do_over_file-in-Report.result.1 c.in-Report.is
     (record {
-      done = ok_so r _ refl;
-      failed = IfErr-weaker r _ _ (λ f is. (is, refl)) does.failed;
+      done = ok_so r _ c.do_over_file-in-Report.ensures.1;
+      failed = IfErr-weaker r _ _ (λ f is. (is, c.do_over_file-in-Report.ensures.1)) does.failed;
       leaves = does.done;
       stops = does.stops;
       tells = does.tells;

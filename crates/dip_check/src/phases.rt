@@ -25,7 +25,7 @@ use dip_turn_papers::paper_text;
 use std::alloc::{AllocError, Global};
 
 /// A second copy of a public part; both share the board.
-fn copied(alloc: Global, public: &Public) -> Result<Public, AllocError>
+fn copy_of(alloc: Global, public: &Public) -> Result<Public, AllocError>
     ensures { IfOk result (λ p. rows.public p ≡ rows.public public.now) }
 {
     Ok(Public {
@@ -80,7 +80,7 @@ fn played_at(
     ensures paper { IfOk result (λ r. string_bytes r.1
         ≡ paper_at map.now (rows.public before.now) tick board report.now) }
 {
-    let public = copied(alloc, before)?;
+    let public = copy_of(alloc, before)?;
     let after = public_played(alloc, tick, public, board, report.course)?;
     let paper = paper_text(alloc, map, report, &after)?;
     Ok((after, paper))

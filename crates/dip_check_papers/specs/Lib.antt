@@ -7,3 +7,4 @@ pub mod PaperTexts
 pub mod Parts
 pub mod Differing
 pub mod Shared
+pub mod Faults

@@ -12,7 +12,7 @@ ghost use Rattle.dip_map.specs.Boards.{IsOf};
 ghost use Rattle.dip_names.specs.Forms.{is_printable};
 ghost use Rattle.dip_reports.specs.Texts.{marked_lines, notice_paper, paper_end};
 
-use crate::differences::{compared, fault_at};
+use crate::differences::{comparison_verdict, fault_at};
 use crate::titles::line_of;
 use crate::verdict::{Verdict, Wanted};
 use dip_desk_state::Public;
@@ -148,5 +148,5 @@ pub(crate) fn check_announcement(
     }
     let after = public_announced(alloc, before)?;
     let wanted = announcement_text(alloc, map, lines, &after)?;
-    compared(alloc, text, wanted.as_str(), after)
+    comparison_verdict(alloc, text, wanted.as_str(), after)
 }

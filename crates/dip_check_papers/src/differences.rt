@@ -55,7 +55,7 @@ pub fn first_difference(alloc: Global, text: &str, wanted: &str) -> Result<Fault
 }
 
 /// Right where the text is the wanted one, which leaves the game so.
-pub(crate) fn compared(
+pub(crate) fn comparison_verdict(
     alloc: Global,
     text: &str,
     wanted: &str,

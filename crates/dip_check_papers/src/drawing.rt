@@ -10,7 +10,7 @@ ghost use Rattle.dip_desk_state.specs.Bounds.{most_papers};
 ghost use Rattle.dip_desk_state.specs.Rows as rows;
 ghost use Rattle.dip_map.specs.Boards.{IsOf, are_ascending};
 
-use crate::differences::{compared, fault_at};
+use crate::differences::{comparison_verdict, fault_at};
 use crate::parts::{game_line, lines_of, rest_after};
 use crate::titles::line_of;
 use crate::verdict::{Verdict, Wanted};
@@ -191,5 +191,5 @@ pub fn check_draw(
     }
     let after = public_drawn(alloc, before, powers)?;
     let wanted = draw_paper_text(alloc, map, &after)?;
-    compared(alloc, text, wanted.as_str(), after)
+    comparison_verdict(alloc, text, wanted.as_str(), after)
 }

@@ -4,6 +4,7 @@
 mod announcing;
 mod differences;
 mod drawing;
+mod faults;
 mod given;
 mod laws;
 mod lines;
@@ -11,6 +12,7 @@ mod notices;
 mod openings;
 mod parts;
 mod printed;
+mod progress;
 mod same;
 mod ticks;
 mod titles;
@@ -19,6 +21,7 @@ mod words;
 
 pub use differences::{fault_at, first_difference, other_line};
 pub use drawing::check_draw;
+pub use faults::CheckFault;
 pub use given::are_given;
 pub use laws::{
     movements_are_read_back, other_orders_are_read_back, papers_are_lines, papers_have_one_answer,
@@ -26,6 +29,7 @@ pub use laws::{
 pub use notices::check_notice;
 pub use openings::check_opening;
 pub use printed::{Printed, orders_printed};
+pub use progress::Progress;
 pub use ticks::{LAST_TICK, tick_told};
 pub use titles::{first_line, phase_title, title_of};
 pub use verdict::{Fault, Papers, Verdict, Wanted};

@@ -15,7 +15,7 @@ ghost use Rattle.dip_map.specs.Charts.{Chart};
 ghost use Rattle.dip_desk_state.specs.Records as records;
 
 use crate::announcing::check_announcement;
-use crate::differences::compared;
+use crate::differences::comparison_verdict;
 use crate::openings::LONGEST_PERIOD;
 use crate::parts::{lines_of, lines_told, rest_after};
 use crate::verdict::{Fault, Verdict};
@@ -91,7 +91,7 @@ fn check_command(
 {
     let after = public_noted(alloc, notice, before)?;
     let wanted = notice_paper_text(alloc, map, *notice, &after)?;
-    compared(alloc, text, wanted.as_str(), after)
+    comparison_verdict(alloc, text, wanted.as_str(), after)
 }
 
 /// Of two faults the one whose text goes on further before it.

@@ -8,7 +8,7 @@ ghost use Rattle.dip_desk_games.specs.Opening.{opening_public};
 ghost use Rattle.dip_desk_state.specs.Rows as rows;
 ghost use Rattle.dip_letters.specs.Words.{is_digit, is_game, is_lower};
 
-use crate::differences::{compared, fault_at};
+use crate::differences::{comparison_verdict, fault_at};
 use crate::ticks::LAST_TICK;
 use crate::titles::line_of;
 use crate::verdict::{Verdict, Wanted};
@@ -127,7 +127,7 @@ fn check_terms(
     let intent = says_yes(words, "INTENT");
     let after = opening_public(alloc, map, game, due, period, grey, intent)?;
     let wanted = opening_paper_text(alloc, map, &after)?;
-    compared(alloc, text, wanted.as_str(), after)
+    comparison_verdict(alloc, text, wanted.as_str(), after)
 }
 
 /// What is said of a text that is to be the first paper of a game. It is wrong only where no letter can open a game by a paper with

@@ -15,7 +15,7 @@ use Rattle.dip_check_papers.specs.Laws.{OpeningsHaveOneAnswer, PapersHaveOneAnsw
 use Rattle.dip_check_papers.specs.PaperTexts.{HasNoEnd, IsPaperText, PapersAreLines, end_line, text_of}
 use Rattle.dip_check_papers.proofs.EndLemmas.{ArePrintable, cut_unique, text_ascii}
 use Rattle.dip_check_papers.proofs.OneAnswer.{next_period}
-use Rattle.dip_check_runs.specs.declared.faults.CheckFault.{CheckFault}
+use Rattle.dip_check_papers.specs.declared.faults.CheckFault.{CheckFault}
 use Rattle.dip_check_runs.specs.Input.{AreEmptyLines, EndsOnce, IsAfterLines, IsRead, IsTakenFront, closing}
 use Rattle.dip_check_runs.specs.Runs.{AreFronts, ArePlayed, HasBoard, TellsIfGame, IsSaid, is_right}
 use Rattle.dip_check_runs.specs.declared.input.Ahead.{Ahead}

@@ -25,8 +25,8 @@ use Rattle.dip_turn.specs.Reports.{Leaves, LeavesMoved}
 use Rattle.dip_turn_phases.specs.declared.report.Account.{Account}
 use Rattle.dip_turn_phases.specs.declared.report.Account.TheVariants.{Movement as OfMovement, Retreats as OfRetreats, Adjustment as OfAdjustment}
 use Rattle.dip_turn_phases.specs.declared.report.Report.{Report}
-use Rattle.dip_check_runs.specs.declared.faults.CheckFault.{CheckFault}
-use Rattle.dip_check_runs.specs.declared.faults.CheckFault.TheVariants.{Memory, Read, TooLong, Write}
+use Rattle.dip_check_papers.specs.declared.faults.CheckFault.{CheckFault}
+use Rattle.dip_check_papers.specs.declared.faults.CheckFault.TheVariants.{Memory, Read, TooLong, Write}
 use Rattle.dip_check_papers.specs.PaperTexts.{HasNoEnd}
 use Rattle.dip_check_runs.specs.Input.{AreEmptyLines, HasUsed, IsAfterLines, IsRead, IsTakenFront, IsTooMuch, closing}
 use Rattle.dip_check_runs.specs.Texts.{missing_text, no_phase_text, right_text, said_text}

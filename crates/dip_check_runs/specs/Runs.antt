@@ -12,8 +12,8 @@ use Rattle.dip_turn_phases.specs.declared.report.Report.{Report}
 use Rattle.dip_check_papers.specs.Games.{AreOfGame, IsNext, IsOpening, IsPhaseOf}
 use Rattle.dip_check_papers.specs.PaperTexts.{HasNoEnd}
 use Rattle.dip_explain.specs.Phases.{phase_explained}
-use Rattle.dip_check_runs.specs.declared.faults.CheckFault.{CheckFault}
-use Rattle.dip_check_runs.specs.declared.faults.CheckFault.TheVariants.{Memory, Read, TooLong, Write}
+use Rattle.dip_check_papers.specs.declared.faults.CheckFault.{CheckFault}
+use Rattle.dip_check_papers.specs.declared.faults.CheckFault.TheVariants.{Memory, Read, TooLong, Write}
 use Rattle.dip_check_runs.specs.Input.{AreEmptyLines, HasUsed, HasUsedAll, IsAfterLines}
 use Rattle.dip_check_runs.specs.Texts.{count_text, empty_text, missing_text, no_phase_text, right_text, said_text, too_long_text}
 use Rattle.dip_check_runs.specs.declared.explaining.Found.{Found}

@@ -4,23 +4,16 @@ ghost use Rattle.std.specs.Io.KnownBytes.{Appends};
 ghost use Rattle.dip_check_runs.specs.Runs.{EndsEarly, HasBoard, IsChecked, IsReadingFault, IsSaid, StopsReading, StopsTelling, TellsIfGame, TellsOf, TellsTooLong, end_text};
 ghost use Rattle.dip_check_runs.specs.Texts as t;
 
-use crate::faults::CheckFault;
 use crate::input::{Ahead, next_front, nothing_ahead, skip_rest};
 use crate::papers::after_empty_lines;
 use crate::saying::{Said, say};
 use crate::texts::{count_text, said_text, too_long_text};
-use dip_check_papers::{papers_are_lines, papers_have_one_answer};
+use dip_check_papers::{CheckFault, Progress, papers_are_lines, papers_have_one_answer};
 use dip_desk_state::Public;
 use dip_map::Map;
 use dip_streams::write_text;
 use std::alloc::{AllocError, Global};
 use std::io::{Read, Write};
-
-/// Hears how far a check has come.
-pub trait Progress {
-    /// So many papers were read so far, and each is right.
-    fn hear(&self, papers: u32);
-}
 
 /// Writes a text, or a beginning of it.
 pub(crate) fn tell<W: Write>(writer: &mut W, text: &[u8]) -> Result<(), CheckFault>

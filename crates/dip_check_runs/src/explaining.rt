@@ -5,12 +5,12 @@ ghost use Rattle.dip_check_runs.specs.Texts as t;
 ghost use Rattle.dip_map.specs.Boards.{IsOf};
 
 use crate::checking::tell;
-use crate::faults::CheckFault;
 use crate::input::{next_front, nothing_ahead, skip_rest};
 use crate::papers::after_empty_lines;
 use crate::saying::{Said, count_played, say, text_of};
 use crate::texts::{missing_text, no_phase_text, said_text};
 use dip_check::phase_of;
+use dip_check_papers::CheckFault;
 use dip_desk_state::Public;
 use dip_explain::explain_phase;
 use dip_map::Map;

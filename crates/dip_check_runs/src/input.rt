@@ -3,8 +3,8 @@ ghost use Rattle.std.specs.Prelude.{◌≡◌, ◌++◌, ℕ, List, Option, [], 
 ghost use Rattle.dip_check_runs.specs.Input.{HasUsed, IsFront, IsNearer, IsRead, IsTakenFront, IsTooMuch};
 ghost use Rattle.dip_check_runs.specs.Runs.{IsReadingFault};
 
-use crate::faults::CheckFault;
 use crate::papers::paper_end;
+use dip_check_papers::CheckFault;
 use dip_streams::read_some;
 use std::alloc::Global;
 use std::io::Read;

@@ -4,13 +4,11 @@
 
 mod checking;
 mod explaining;
-mod faults;
 mod input;
 mod papers;
 mod saying;
 mod texts;
 
-pub use checking::{Progress, check_papers};
+pub use checking::check_papers;
 pub use explaining::explain_paper;
-pub use faults::CheckFault;
 pub use input::MOST_PAPER;

@@ -63,7 +63,7 @@ fn verdict_text(alloc: Global, said: &Said) -> Result<String, AllocError>
 }
 
 /// The title of a paper, and a text after it.
-fn titled(alloc: Global, paper: &[u8], text: &str) -> Result<Vec<u8>, AllocError>
+fn text_under_title(alloc: Global, paper: &[u8], text: &str) -> Result<Vec<u8>, AllocError>
     ensures { IfOk result (λ told. told.items ≡ t.title_in paper.now ++ text.now) }
 {
     let mut told = Vec::new(alloc);
@@ -77,7 +77,7 @@ pub(crate) fn said_text(alloc: Global, paper: &[u8], said: &Said) -> Result<Vec<
     ensures { IfOk result (λ told. told.items ≡ t.said_text paper.now said.now) }
 {
     let text = verdict_text(alloc, said)?;
-    titled(alloc, paper, text.as_str())
+    text_under_title(alloc, paper, text.as_str())
 }
 
 /// What is told after the title of a paper of which this line goes past the most bytes.
@@ -104,14 +104,14 @@ pub(crate) fn too_long_text(alloc: Global, paper: &[u8]) -> Result<Vec<u8>, Allo
     ensures { IfOk result (λ told. told.items ≡ t.too_long_text paper.now) }
 {
     let text = past_text(alloc, line_after(within_most(paper)))?;
-    titled(alloc, paper, text.as_str())
+    text_under_title(alloc, paper, text.as_str())
 }
 
 /// What is told of a paper that plays no phase.
 pub(crate) fn no_phase_text(alloc: Global, paper: &[u8]) -> Result<Vec<u8>, AllocError>
     ensures { IfOk result (λ told. told.items ≡ t.no_phase_text paper.now) }
 {
-    titled(
+    text_under_title(
         alloc,
         paper,
         " plays no phase, so there is nothing to explain\n",

@@ -12,10 +12,10 @@ mod working;
 mod worklist;
 
 pub use dip_decide_rules::{Decision, Known, Resolution, Step, Tests};
-pub use dip_decide_table::meant;
+pub use dip_decide_table::orders_as_meant;
 pub use laws::{
     boards_are_situations, chains_are_found, corners_decide, equations_are_lawful,
     explained_is_lawful, knots_are_found, one_answer, orders_are_meant, steps_commute,
 };
 pub use resolving::resolve;
-pub use testing::{forced, known_at_first};
+pub use testing::{forced_value, known_at_first};

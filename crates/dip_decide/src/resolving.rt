@@ -139,7 +139,7 @@ fn resolution_of(
     })
 }
 
-/// What comes of the orders of a movement: one for each unit of the board, as they are meant on it (`meant`).
+/// What comes of the orders of a movement: one for each unit of the board, as they are meant on it (`orders_as_meant`).
 ///
 /// The values satisfy the decision equations, and the steps explain them: each decision was forced by those before it, or was
 /// settled with a circle or with a knot, which is taken only where nothing is forced and there is no circle. Whatever steps explain

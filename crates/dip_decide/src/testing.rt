@@ -47,7 +47,7 @@ fn ground_of<'a>(
 /// The value to which an open decision is forced: what its equation gives whatever the other open decisions come to. None where
 /// it isn't forced. `resolve` tests by the same function, over one table for all tests. The only error is want of memory; the test is
 /// counted all the same.
-pub fn forced(
+pub fn forced_value(
     alloc: Global,
     map: &Map,
     board: &Board,

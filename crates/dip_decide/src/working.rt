@@ -8,7 +8,7 @@ ghost use Rattle.dip_decide.specs.Working.{weight, Counts, HasOpen, IsListed, Is
 
 use crate::waking::put;
 use crate::worklist::Worklist;
-use dip_decide_rules::{Decision, Room, Step, Table, Tests, Values, forced};
+use dip_decide_rules::{Decision, Room, Step, Table, Tests, Values, forced_value};
 use dip_names::Prov;
 use std::alloc::{AllocError, Global};
 
@@ -139,7 +139,7 @@ fn work_on(
     if values.look(d).is_some() {
         return Ok(());
     }
-    match forced(room, &*table, &*values, &*d, tests)? {
+    match forced_value(room, &*table, &*values, &*d, tests)? {
         None => Ok(()),
         Some(value) => {
             steps.push(Step::Forced(*d))?;

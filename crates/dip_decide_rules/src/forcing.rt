@@ -80,7 +80,7 @@ fn value_at_corners<'a>(
 }
 
 /// Tests an open decision: the value to which it is forced, or none where it isn't. The test is counted, also where memory is wanting.
-pub fn forced<'a>(
+pub fn forced_value<'a>(
     room: &mut Room,
     table: &'a Table<'a>,
     known: &'a Values,
@@ -98,7 +98,7 @@ pub fn forced<'a>(
     value_at_corners(room, table, known, of)
 }
 
-/// Tests an open decision as `forced` does, over a table and a room for searches; where there was no memory for these, the test is
+/// Tests an open decision as `forced_value` does, over a table and a room for searches; where there was no memory for these, the test is
 /// counted all the same.
 pub fn forced_on<'a>(
     ground: Result<(Table<'a>, Room), AllocError>,
@@ -115,7 +115,7 @@ pub fn forced_on<'a>(
     ensures counted { tests.new ≡ tests.old + 1 }
 {
     match ground {
-        Ok((table, mut room)) => forced(&mut room, &table, known, of, tests),
+        Ok((table, mut room)) => forced_value(&mut room, &table, known, of, tests),
         Err(error) => {
             tests.raise();
             Err(error)

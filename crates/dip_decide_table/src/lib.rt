@@ -15,6 +15,6 @@ mod table;
 pub use held::ByKey;
 pub use lists::{copy_of, is_in, write_over};
 pub use matching::{backed_by, carried_of, is_convoyed_of, target_of};
-pub use meaning::{meant, table_on};
+pub use meaning::{orders_as_meant, table_on};
 pub use placed::Table;
 pub use room::Room;

@@ -44,7 +44,7 @@ fn goes_by_convoy(map: &Map, kind: Kind, p: Prov, order: Order) -> bool
 }
 
 /// The unit that an order supports, whether it matches or not.
-fn helped(order: Order) -> Option<Prov>
+fn supported_unit(order: Order) -> Option<Prov>
     ensures { result ≡ helped order }
 {
     match order {
@@ -103,7 +103,7 @@ fn is_matched(rows: &[Option<PlacedOrder>], order: Order, p: Prov) -> bool
 pub fn backed_by(rows: &[Option<PlacedOrder>], placed: &PlacedOrder) -> Option<Prov>
     ensures { result ≡ backed_of (entry rows.now) (Some placed.now) }
 {
-    match helped(placed.order) {
+    match supported_unit(placed.order) {
         Some(p) => if is_matched(rows, placed.order, p) {
             Some(p)
         } else {
@@ -114,7 +114,7 @@ pub fn backed_by(rows: &[Option<PlacedOrder>], placed: &PlacedOrder) -> Option<P
 }
 
 /// The unit that an order convoys, whether it matches or not.
-fn carried(order: Order) -> Option<Prov>
+fn convoyed_unit(order: Order) -> Option<Prov>
     ensures { result ≡ carried order }
 {
     match order {
@@ -128,7 +128,7 @@ pub fn carried_of(row: &Option<PlacedOrder>) -> Option<Prov>
     ensures { result ≡ carried_of row.now }
 {
     match row {
-        Some(placed) => carried(placed.order),
+        Some(placed) => convoyed_unit(placed.order),
         None => None,
     }
 }

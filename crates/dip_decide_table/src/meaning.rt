@@ -84,7 +84,7 @@ fn meant_by_sea(
 /// The orders of a movement as they are meant on a board: where the game has the option INTENT, an army's move between two coastal provinces
 /// goes by convoy also where a fleet of its own power in a sea is ordered to convoy that very move. With the option off they are meant as
 /// they were given. The only error is want of memory.
-pub fn meant(
+pub fn orders_as_meant(
     alloc: Global,
     map: &Map,
     board: &Board,
@@ -109,6 +109,6 @@ pub fn table_on<'a>(
     requires within { All (λ o. o.unit.place.prov < length map.now.provinces) orders.now }
     ensures { IfOk result (λ t. situation_of t ≡ m.situation_on map.now board.now orders.now) }
 {
-    let meant = meant(alloc, map, board, orders)?;
+    let meant = orders_as_meant(alloc, map, board, orders)?;
     table_of(alloc, map, meant.as_slice())
 }

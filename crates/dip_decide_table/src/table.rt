@@ -143,7 +143,7 @@ fn columns_of(alloc: Global, map: &Map, orders: &[PlacedOrder]) -> Result<Column
 }
 
 /// Whom the unit in each province supports, if that matches by the rows of all orders.
-fn backed(
+fn backings(
     alloc: Global,
     map: &Map,
     orders: &[PlacedOrder],
@@ -218,7 +218,7 @@ pub fn table_of<'a>(
         convoyed,
         carried,
     } = columns_of(alloc, map, orders)?;
-    let backed = backed(alloc, map, orders, rows.as_slice())?;
+    let backed = backings(alloc, map, orders, rows.as_slice())?;
     let movers = movers_of(alloc, places.as_slice(), targets.as_slice())?;
     let helpers = helpers_of(alloc, places.as_slice(), backed.as_slice())?;
     let carriers = carriers_of(alloc, places.as_slice(), carried.as_slice())?;

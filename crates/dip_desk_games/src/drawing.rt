@@ -122,7 +122,11 @@ fn is_agreed(survivors: &[Power], seats: &[Own], set: &[Power]) -> bool
 }
 
 /// The powers between which a vote asks for a draw, if it asks for one.
-fn asked(alloc: Global, survivors: &[Power], vote: &Vote) -> Result<Option<Vec<Power>>, AllocError>
+fn asked_powers(
+    alloc: Global,
+    survivors: &[Power],
+    vote: &Vote,
+) -> Result<Option<Vec<Power>>, AllocError>
     ensures { IfOk result (λ found. option_map (λ v. v.items) found
         ≡ d.asked survivors.now (rows.vote vote.now)) }
 {
@@ -146,14 +150,14 @@ fn asked_by(
 {
     for seat in seats {
         if seat.power == power {
-            return asked(alloc, survivors, &seat.vote);
+            return asked_powers(alloc, survivors, &seat.vote);
         }
     }
     Ok(None)
 }
 
 /// The powers on whom these survivors agree, if they do.
-fn agreed(
+fn agreed_powers(
     alloc: Global,
     survivors: &[Power],
     seats: &[Own],
@@ -184,5 +188,5 @@ pub fn drawn_between(
         ≡ d.drawn_between map.now (rows.whole whole.now)) }
 {
     let survivors = survivors(alloc, map, &whole.public.board)?;
-    agreed(alloc, survivors.as_slice(), whole.seats.as_slice())
+    agreed_powers(alloc, survivors.as_slice(), whole.seats.as_slice())
 }

@@ -26,7 +26,7 @@ fn is_announcement(notice: &Notice<'_>) -> bool
 
 /// The verdict that publishes the notice as the game's next paper. No phase is played, so that
 /// orders and votes stay.
-fn notified(
+fn notice_paper_verdict(
     alloc: Global,
     map: &Map,
     notice: &Notice<'_>,
@@ -69,5 +69,5 @@ pub fn notice_verdict(
         return Err(KeepFault::Damaged);
     }
     let after = public_noted(alloc, notice, public)?;
-    Ok(notified(alloc, map, notice, after)?)
+    Ok(notice_paper_verdict(alloc, map, notice, after)?)
 }

@@ -21,7 +21,7 @@ use dip_turn_papers::paper_text;
 use std::alloc::{AllocError, Global};
 
 /// A phase that was adjudicated: its paper is published.
-fn published(
+fn paper_verdict(
     alloc: Global,
     map: &Map,
     report: &Report,
@@ -43,7 +43,7 @@ fn published(
 }
 
 /// The phase of a game is adjudicated with the orders that stand; `Damaged` where it can't be.
-fn adjudicated(alloc: Global, map: &Map, tick: u64, whole: Whole) -> Result<Verdict, KeepFault>
+fn phase_verdict(alloc: Global, map: &Map, tick: u64, whole: Whole) -> Result<Verdict, KeepFault>
     requires timely { tick ≤ 999999999999 }
     requires room { whole.public.papers < most_papers }
     requires board { IsOf map.now whole.public.board.value }
@@ -59,7 +59,7 @@ fn adjudicated(alloc: Global, map: &Map, tick: u64, whole: Whole) -> Result<Verd
         Err(_) => Err(KeepFault::Memory),
         Ok((board, report)) => {
             let after = public_played(alloc, tick, public, board, report.course)?;
-            Ok(published(alloc, map, &report, after)?)
+            Ok(paper_verdict(alloc, map, &report, after)?)
         }
     }
 }
@@ -83,7 +83,7 @@ fn on_time(alloc: Global, map: &Map, tick: u64, whole: Whole) -> Result<Verdict,
             let Whole { public, .. } = whole;
             Ok(draw_verdict(alloc, map, public, powers)?)
         }
-        None => adjudicated(alloc, map, tick, whole),
+        None => phase_verdict(alloc, map, tick, whole),
     }
 }
 

@@ -8,7 +8,7 @@ ghost use Rattle.dip_decide_rules.specs.Steps.{moves_of, paths_of};
 ghost use Rattle.dip_explain_strengths.specs.Matters.{joined, order_in};
 ghost use Rattle.dip_explain.specs.Movement as m;
 
-use dip_decide::{known_at_first, meant};
+use dip_decide::{known_at_first, orders_as_meant};
 use dip_decide_rules::{Corner, Decision, Known, Resolution, Step, Table, is_in};
 use dip_decide_table::table_on;
 use dip_explain_lines::push_decision;
@@ -232,7 +232,7 @@ pub(crate) fn explain_movement(
         resolution.now) }
 {
     let _ = board.units();
-    let meant = meant(alloc, map, board, orders.as_slice())?;
+    let meant = orders_as_meant(alloc, map, board, orders.as_slice())?;
     let table = table_on(alloc, map, board, orders.as_slice())?;
     let mut known = known_at_first(alloc, map, board, orders)?;
     let ground = Ground {

@@ -271,7 +271,7 @@ fn is_unbeaten(case: &Case<'_>, p: Prov, q: Prov, w: Prov) -> bool
 }
 
 /// The other moves to a province that the move of a unit doesn't beat.
-fn unbeaten(case: &Case<'_>, alloc: Global, p: Prov, q: Prov) -> Result<Vec<Prov>, AllocError>
+fn unbeaten_moves(case: &Case<'_>, alloc: Global, p: Prov, q: Prov) -> Result<Vec<Prov>, AllocError>
     ensures { IfOk result
         (λ v. v.items ≡ m.unbeaten (situation_of case.now.corner.table.now)
         (here (matter_of case.now)) p q) }
@@ -318,7 +318,7 @@ fn push_unexceeded(
         p q) }
 {
     if case.corner.opposition(p, q) < case.corner.attack(p, q) {
-        let unbeaten = unbeaten(case, alloc, p, q)?;
+        let unbeaten = unbeaten_moves(case, alloc, p, q)?;
         return push_joined(case, &Saying::Prevents(q), unbeaten.as_slice(), out);
     }
     case.push_opposition(p, q, out)

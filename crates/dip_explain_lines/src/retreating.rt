@@ -204,7 +204,7 @@ fn push_fate(
 }
 
 /// The dislodged unit that is this one.
-fn found(all: &[Dislodged], unit: &Unit) -> Option<Dislodged>
+fn dislodged_entry(all: &[Dislodged], unit: &Unit) -> Option<Dislodged>
     ensures { result ≡ find (λ d. is_same_unit d.unit unit.now) all.now }
 {
     for dislodged in all {
@@ -226,7 +226,7 @@ fn push_neighbours(
     ensures { OnOk result (string_bytes out.new ≡ string_bytes out.old ++ r.neighbours_text map.now
         board.now (r.dislodged_in board.now line.now)) }
 {
-    match found(board.dislodged(), &line.placed.unit) {
+    match dislodged_entry(board.dislodged(), &line.placed.unit) {
         None => Ok(()),
         Some(dislodged) => push_places(alloc, map, board, &dislodged, out),
     }

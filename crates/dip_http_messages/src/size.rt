@@ -23,7 +23,7 @@ pub enum Size {
 }
 
 /// The number that digits write, where it is within the limit. However many digits there are, no number grows past ten times it.
-fn limited(digits: &[u8]) -> Size
+fn size_of_digits(digits: &[u8]) -> Size
     requires { list_all is_ascii_digit digits.now ≡ true }
     ensures { result ≡ limited (digits_value 10 digits.now) }
 {
@@ -49,7 +49,7 @@ pub fn size_of(length: Found<'_>) -> Option<Size>
 {
     match length {
         Found::Never => Some(Size::Unsaid),
-        Found::Once(value) if !value.is_empty() && are_digits(value) => Some(limited(value)),
+        Found::Once(value) if !value.is_empty() && are_digits(value) => Some(size_of_digits(value)),
         _ => None,
     }
 }

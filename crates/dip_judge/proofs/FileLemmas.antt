@@ -19,7 +19,7 @@ use Rattle.dip_store.specs.Causes.{has_faulted}
 use Rattle.dip_store.specs.Opening.{Holds, IsDesk, IsMadeForText, IsNowOf, IsShutBy}
 use Rattle.dip_store.specs.StoreFault.{StoreFault}
 use Rattle.dip_judge_words.specs.declared.args.Args.{Args}
-use Rattle.dip_judge_words.specs.declared.args.Args.TheVariants.{Init, Letters, Stored, Serve, Report, Check, Explain, Version}
+use Rattle.dip_judge_words.specs.declared.args.Args.TheVariants.{Init, Letters, LettersOver, Serve, Report, Check, Explain, Version}
 use Rattle.dip_judge_words.specs.declared.faults.UsageFault.{UsageFault}
 use Rattle.dip_judge_runs.specs.MapFiles.{IsMapOf, IsNoMapOf}
 use Rattle.dip_judge_runs.specs.Runs.{IsReadToEnd}
@@ -94,7 +94,7 @@ module _ {D : Type 0} {g : disk.Ghosts D} (image : Image) (m : Chart) (first : H
     tells_of_file (Err (Papers fault)) made = was_made_for made
 
   module _ (last : Held (FileStore D g)) (fair : is_honest over_files last → HasCleanDisk (file_state first)) where
-    -- a lawful desk of the file is one of the store
+    -- what lasts of a lawful desk of the store lasts of its file's
     pub lasts_in : (text : List ℕ) (Lasting : Type 0) → LastsFrom over_files m text first last Lasting → is_honest over_files last → HeldLawful image m text → Lasting
     lasts_in text Lasting lasts clean held =
         let it = opened (fair clean) in
@@ -255,7 +255,7 @@ module _ (m : Chart) (known left before after : Option (List ℕ)) where
   no_usage : (a : Args) (fault : UsageFault) → Fails m known left before after a (Usage fault) → ⊥
   no_usage (Init store master file) fault fails = fails.0
   no_usage (Letters master file) fault fails = fails
-  no_usage (Stored store file) fault fails = fails
+  no_usage (LettersOver store file) fault fails = fails
   no_usage (Serve store port count file) fault fails = fails.0
   no_usage (Report store game file) fault fails = fails.0
   no_usage (Check file) fault fails = fails
@@ -265,7 +265,7 @@ module _ (m : Chart) (known left before after : Option (List ℕ)) where
   no_map : (a : Args) (fault : NoMap) → Fails m known left before after a (Map fault) → ⊥
   no_map (Init store master file) fault fails = fails.0
   no_map (Letters master file) fault fails = fails
-  no_map (Stored store file) fault fails = fails
+  no_map (LettersOver store file) fault fails = fails
   no_map (Serve store port count file) fault fails = fails.0
   no_map (Report store game file) fault fails = fails.0
   no_map (Check file) fault fails = fails

@@ -6,13 +6,13 @@ use Rattle.dip_map.specs.Charts.{Chart}
 use Rattle.dip_judge_words.specs.ArgsGiven.{IsFit, IsGiven, map_named}
 use Rattle.dip_judge_words.specs.UsageFaults.{IsUsageFault}
 use Rattle.dip_judge_words.specs.declared.args.Args.{Args}
-use Rattle.dip_judge_words.specs.declared.args.Args.TheVariants.{Init, Letters, Stored, Serve, Report, Check, Explain, Version}
+use Rattle.dip_judge_words.specs.declared.args.Args.TheVariants.{Init, Letters, LettersOver, Serve, Report, Check, Explain, Version}
 use Rattle.dip_judge_runs.specs.MapFiles.{IsMapOf, IsNoMapOf}
 use Rattle.dip_judge_runs.specs.Runs.{IsReadToEnd}
 use Rattle.dip_judge_runs.specs.Fresh.{AnswersFresh, IsCutShort}
 use Rattle.dip_judge.specs.Stores.{IsIdle, IsReportFailure, IsServeFailure, ReadsUpTo}
 use Rattle.dip_check_runs.specs.Runs.{IsChecked, IsExplained, TellsIfGame}
-use Rattle.dip_judge_system.specs.Checking.{FailsCheck, FailsExplaining}
+use Rattle.dip_judge.specs.Checking.{FailsCheck, FailsExplaining}
 use Rattle.dip_judge_system.specs.Version.{FailsVersion, version_text}
 use Rattle.dip_judge_system.specs.declared.failures.Failure.{Failure}
 use Rattle.dip_judge_system.specs.declared.failures.Failure.TheVariants.{Usage, Map, Store, Run}
@@ -26,7 +26,7 @@ IsAsked standard words a m = IsGiven words a × IsFit a × ((text : List ℕ) ×
 abbrev pub Streams : Chart → Option (List ℕ) → Option (List ℕ) → Option (List ℕ) → Option (List ℕ) → Args → Type 0
 Streams m known left before after (Init store master file) = IsIdle known left before after
 Streams m known left before after (Letters master file) = AnswersFresh m master.now known left before after
-Streams m known left before after (Stored store file) = IsReadToEnd known left
+Streams m known left before after (LettersOver store file) = IsReadToEnd known left
 Streams m known left before after (Serve store port count file) = IsIdle known left before after
 Streams m known left before after (Report store game file) = left ≡ known
 Streams m known left before after (Check file) = IsChecked m known left before after true × TellsIfGame m known true
@@ -66,7 +66,7 @@ EndsFresh m secret known left before after failure = ⊥
 abbrev pub Fails : Chart → Option (List ℕ) → Option (List ℕ) → Option (List ℕ) → Option (List ℕ) → Args → Failure → Type 0
 Fails m known left before after (Init store master file) failure = IsInitFailure failure × IsIdle known left before after
 Fails m known left before after (Letters master file) failure = EndsFresh m master.now known left before after failure
-Fails m known left before after (Stored store file) failure = ReadsUpTo known left before after failure
+Fails m known left before after (LettersOver store file) failure = ReadsUpTo known left before after failure
 Fails m known left before after (Serve store port count file) failure = IsServeFailure failure × IsIdle known left before after
 Fails m known left before after (Report store game file) failure = IsReportFailure failure × (left ≡ known)
 Fails m known left before after (Check file) failure = FailsCheck m known left before after failure

@@ -8,7 +8,7 @@ use Rattle.sqlite.specs.Store.{Ghosts}
 use Rattle.sqlite.specs.Tree.{Trees}
 use Rattle.dip_map.specs.Charts.{Chart}
 use Rattle.dip_judge_words.specs.declared.args.Args.{Args}
-use Rattle.dip_judge_words.specs.declared.args.Args.TheVariants.{Init, Letters, Stored, Serve, Report, Check, Explain, Version}
+use Rattle.dip_judge_words.specs.declared.args.Args.TheVariants.{Init, Letters, LettersOver, Serve, Report, Check, Explain, Version}
 use Rattle.dip_desk_state.specs.State.{State}
 use Rattle.dip_store.specs.Calls.{does_show, is_honest}
 use Rattle.dip_store.specs.Opening.{Holds, IsMadeForText, IsShutFor, Says, SaysText}
@@ -107,7 +107,7 @@ module _ {S : Type 0} (g : Ghosts S) (image : Image) (m : Chart) (known left bef
   abbrev pub LeavesStore : Args → Option (Held S) → Type 0
   LeavesStore (Init path master file) opened = WasOpened opened (MadeIn g m master.now)
   LeavesStore (Letters master file) opened = Unit {0}
-  LeavesStore (Stored path file) opened = WasOpened opened (AnswersIn g image m known left before after)
+  LeavesStore (LettersOver path file) opened = WasOpened opened (AnswersIn g image m known left before after)
   LeavesStore (Serve path port count file) opened = WasOpened opened (ServesIn g image m count)
   LeavesStore (Report path game file) opened = WasOpened opened (ReportsIn g image m game.now before after)
   LeavesStore (Check file) opened = Unit {0}
@@ -118,7 +118,7 @@ module _ {S : Type 0} (g : Ghosts S) (image : Image) (m : Chart) (known left bef
   abbrev pub StopsStore : Args → Failure → Option (Held S) → Type 0
   StopsStore (Init path master file) failure opened = IfOpened IsOpenFault failure opened (UnmadeIn g image)
   StopsStore (Letters master file) failure opened = Unit {0}
-  StopsStore (Stored path file) failure opened = IfOpened IsFindFault failure opened (AnswersUpTo g image m known left before after failure)
+  StopsStore (LettersOver path file) failure opened = IfOpened IsFindFault failure opened (AnswersUpTo g image m known left before after failure)
   StopsStore (Serve path port count file) failure opened = IfOpened IsFindFault failure opened (StopsServingIn g image m count failure)
   StopsStore (Report path game file) failure opened = IfOpened IsFindFault failure opened (StopsReportIn g image m game.now before after failure)
   StopsStore (Check file) failure opened = Unit {0}
@@ -132,7 +132,7 @@ abbrev pub TellsStore : {S : Type 0} → Ghosts S → Image → Chart → List �
 TellsStore g image m text (Init path master file) new result =
     is_honest g new → OnOk result (SaysText g text new)
 TellsStore g image m text (Letters master file) new result = Unit {0}
-TellsStore g image m text (Stored path file) new result = TellsOfFile g image m text new result
+TellsStore g image m text (LettersOver path file) new result = TellsOfFile g image m text new result
 TellsStore g image m text (Serve path port count file) new result =
     TellsOfFile g image m text new result
 TellsStore g image m text (Report path game file) new result =

@@ -11,7 +11,7 @@ use Rattle.dip_desk_state.specs.State.{State}
 use Rattle.dip_desk_state.specs.declared.faults.KeepFault.TheVariants.{Damaged}
 use Rattle.dip_judge_runs.specs.declared.run.RunFault.TheVariants.{Keep}
 use Rattle.dip_judge_words.specs.declared.args.Args.{Args}
-use Rattle.dip_judge_words.specs.declared.args.Args.TheVariants.{Init, Letters, Stored, Serve, Report, Check, Explain, Version}
+use Rattle.dip_judge_words.specs.declared.args.Args.TheVariants.{Init, Letters, LettersOver, Serve, Report, Check, Explain, Version}
 use Rattle.dip_store.specs.Calls.{is_honest}
 use Rattle.dip_store.specs.Opening.{AreOf, IsDesk, IsMadeForText, Says}
 use Rattle.dip_desk_keeper.specs.declared.paper_faults.PaperFault.TheVariants as paper
@@ -70,7 +70,7 @@ abbrev pub LastsAs : {S : Type 0} → Ghosts S → Image → Chart → List ℕ 
 LastsAs g image m text (Init path master file) new result =
     is_honest g new → OnOk result (LeavesLawful g m text new)
 LastsAs g image m text (Letters master file) new result = Unit {0}
-LastsAs g image m text (Stored path file) new result = LastsIn g image m text new result
+LastsAs g image m text (LettersOver path file) new result = LastsIn g image m text new result
 LastsAs g image m text (Serve path port count file) new result =
     LastsServing g image m text new result
 LastsAs g image m text (Report path game file) new result = LastsIn g image m text new result

@@ -1,3 +1,4 @@
+pub mod Checking
 pub mod Stores
 pub mod Files
 pub mod Lasting

@@ -58,7 +58,7 @@ pub record ServesFile {S : Type 0} (g : Ghosts S) (image : Image) (m : Chart) (t
   pub tells : IfSome opened (λ store. TellsOfFile g image m text store result)
   pub lasts : IfSome opened (λ store. LastsServing g image m text store result)
 
--- why the file of a command isn't opened: one that is to be there isn't found, too
+-- how opening the file of a command may fail: only `init` makes a file where there is none
 abbrev pub IsFaultOf : StoreCommand → StoreFault → Type 0
 IsFaultOf (Init master) = IsOpenFault
 IsFaultOf Letters = IsFindFault

@@ -5,10 +5,11 @@ ghost use Rattle.sqlite.specs.WalFiles.{image_at};
 ghost use Rattle.dip_judge.specs.Asked.{IsDone, IsFailed};
 ghost use Rattle.dip_judge.specs.OverFiles.{DoesAsAsked, DoesAsked};
 
+use crate::checking::{check, explain};
 use crate::files::{close_file, do_over_file};
 use crate::stored::StoreCommand;
 use dip_judge_runs::{answer_letters, text_said};
-use dip_judge_system::{Failure, Stored, System, check, explain, write_version};
+use dip_judge_system::{Failure, Stored, System, write_version};
 use dip_judge_words::{Args, read_args};
 use dip_map::Map;
 use dip_map_text::STANDARD;
@@ -40,7 +41,7 @@ fn do_asked<S: Start, R: Read, W: Write>(
                 Err(fault) => (Err(Failure::Run(fault)), None),
             }
         }
-        Args::Stored { store, .. } => {
+        Args::LettersOver { store, .. } => {
             let command = StoreCommand::Letters;
             do_over_file(system, start, store, command, map, text, reader, writer)
         }

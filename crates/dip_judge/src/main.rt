@@ -2,6 +2,7 @@
 #![tactic(auto)]
 
 mod asked;
+mod checking;
 mod files;
 mod program;
 mod stored;

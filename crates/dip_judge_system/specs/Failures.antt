@@ -3,7 +3,7 @@ use Rattle.std.specs.Prelude.{ℕ, List, [], ◌++◌, Option, None, Some, Resul
 use Rattle.std.specs.Fmt.{decimal}
 use Rattle.std.specs.declared.io.ErrorKind.{ErrorKind}
 use Rattle.std.specs.declared.io.ErrorKind.TheVariants.{OutOfMemory}
-use Rattle.dip_check_runs.specs.Faults.{check_fault_name}
+use Rattle.dip_check_papers.specs.Faults.{check_fault_name}
 use Rattle.dip_desk_keeper.specs.Papers.{paper_fault_name}
 use Rattle.dip_desk_keeper.specs.declared.paper_faults.PaperFault.TheVariants as paper
 use Rattle.dip_judge_words.specs.declared.faults.UsageFault.{UsageFault}

@@ -1,4 +1,3 @@
 pub mod Failures
 pub mod FileFaults
 pub mod Version
-pub mod Checking

@@ -5,7 +5,7 @@ ghost use Rattle.dip_judge_system.specs.Failures.{exit_status, status_of, words_
 ghost use Rattle.dip_judge_system.specs.declared.failures.Failure.TheVariants.{Usage};
 ghost use Rattle.std.specs.IoError.{error_kind};
 
-use dip_check_runs::CheckFault;
+use dip_check_papers::CheckFault;
 use dip_desk_keeper::PaperFault;
 use dip_desk_state::KeepFault;
 use dip_judge_runs::{NoMap, RunFault};

@@ -9,7 +9,7 @@ ghost use Rattle.dip_judge_system.specs.FileFaults.{IsFindFault, IsOpenFault};
 ghost use Rattle.dip_judge_runs.specs.MapFiles as said;
 ghost use Rattle.dip_judge_runs.specs.MapFiles.{IsMapOf, IsNoMapOf};
 
-use dip_check_runs::Progress;
+use dip_check_papers::Progress;
 use dip_judge_runs::{NoMap, read_map};
 use dip_map::Map;
 use dip_map_text::STANDARD;

@@ -8,7 +8,7 @@ use Rattle.clap.specs.declared.error.kind.ErrorKind.TheVariants.{DisplayVersion,
 use Rattle.dip_judge_words.specs.ArgsGiven.{AsksVersion, Found, GivesCommand, IsFit, IsGiven}
 use Rattle.dip_judge_words.specs.CommandLine.{judge_command}
 use Rattle.dip_judge_words.specs.declared.args.Args.{Args}
-use Rattle.dip_judge_words.specs.declared.args.Args.TheVariants.{Init, Letters, Stored, Serve, Report, Check, Explain, Version}
+use Rattle.dip_judge_words.specs.declared.args.Args.TheVariants.{Init, Letters, LettersOver, Serve, Report, Check, Explain, Version}
 use Rattle.dip_judge_words.specs.Reading.{AnswersAt}
 use Rattle.dip_judge_words.specs.UsageFaults.{IsUsageFault, fault_by_kind, fault_from}
 
@@ -67,7 +67,7 @@ pub none_given : (words : List Text) (rows : Option Found) (a : Args) → fault_
 none_given words rows Version taken same none given fit = takes_no_version words taken given
 none_given words rows (Init store master file) taken same none given fit = no_command words rows (Init store master file) same none given fit
 none_given words rows (Letters master file) taken same none given fit = no_command words rows (Letters master file) same none given fit
-none_given words rows (Stored store file) taken same none given fit = no_command words rows (Stored store file) same none given fit
+none_given words rows (LettersOver store file) taken same none given fit = no_command words rows (LettersOver store file) same none given fit
 none_given words rows (Serve store port count file) taken same none given fit = no_command words rows (Serve store port count file) same none given fit
 none_given words rows (Report store game file) taken same none given fit = no_command words rows (Report store game file) same none given fit
 none_given words rows (Check file) taken same none given fit = no_command words rows (Check file) same none given fit

@@ -6,7 +6,7 @@ use Rattle.clap.specs.declared.error.kind.ErrorKind.TheVariants.{DisplayVersion}
 use Rattle.dip_letters_words.specs.Words.{is_secret}
 use Rattle.dip_judge_words.specs.CommandLine.{judge_command}
 use Rattle.dip_judge_words.specs.declared.args.Args.{Args}
-use Rattle.dip_judge_words.specs.declared.args.Args.TheVariants.{Init, Letters, Stored, Serve, Report, Check, Explain, Version}
+use Rattle.dip_judge_words.specs.declared.args.Args.TheVariants.{Init, Letters, LettersOver, Serve, Report, Check, Explain, Version}
 
 -- what clap's definition finds in words that it takes: the command's name, and the values of its options
 abbrev pub Found : Type 0
@@ -20,7 +20,7 @@ Has found option text = first_of option found.1 ≡ text
 abbrev pub map_named : Args → Option Text
 map_named (Init store master file) = option_map (λ f. f.now) file
 map_named (Letters master file) = option_map (λ f. f.now) file
-map_named (Stored store file) = option_map (λ f. f.now) file
+map_named (LettersOver store file) = option_map (λ f. f.now) file
 map_named (Serve store port count file) = option_map (λ f. f.now) file
 map_named (Report store game file) = option_map (λ f. f.now) file
 map_named (Check file) = option_map (λ f. f.now) file
@@ -31,7 +31,7 @@ map_named Version = None
 abbrev pub name_of : Args → Text
 name_of (Init store master file) = codes "init"
 name_of (Letters master file) = codes "letters"
-name_of (Stored store file) = codes "letters"
+name_of (LettersOver store file) = codes "letters"
 name_of (Serve store port count file) = codes "serve"
 name_of (Report store game file) = codes "report"
 name_of (Check file) = codes "check"
@@ -42,7 +42,7 @@ name_of Version = []
 abbrev pub HasValues : Found → Args → Type 0
 HasValues found (Init store master file) = Has found (codes "store") (Some store.now) × Has found (codes "master") (Some master.now)
 HasValues found (Letters master file) = Has found (codes "store") None × Has found (codes "master") (Some master.now)
-HasValues found (Stored store file) = Has found (codes "store") (Some store.now) × Has found (codes "master") None
+HasValues found (LettersOver store file) = Has found (codes "store") (Some store.now) × Has found (codes "master") None
 HasValues found (Serve store port count file) = Has found (codes "store") (Some store.now)
     × Has found (codes "port") (Some (decimal port)) × Has found (codes "count") (Some (decimal count))
 HasValues found (Report store game file) = Has found (codes "store") (Some store.now) × Has found (codes "game") (Some game.now)

@@ -17,7 +17,7 @@ pub enum Args<'a> {
         map: Option<&'a str>,
     },
     /// Take letters from standard input, with the tables of this file.
-    Stored {
+    LettersOver {
         store: &'a str,
         map: Option<&'a str>,
     },
@@ -55,7 +55,7 @@ impl<'a> Args<'a> {
         match *self {
             Args::Init { map, .. } => map,
             Args::Letters { map, .. } => map,
-            Args::Stored { map, .. } => map,
+            Args::LettersOver { map, .. } => map,
             Args::Serve { map, .. } => map,
             Args::Report { map, .. } => map,
             Args::Check { map } => map,

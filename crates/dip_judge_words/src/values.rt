@@ -52,7 +52,7 @@ pub fn letters_of<'a>(found: &ArgMatches<'a>) -> Option<Args<'a>>
     if master.is_some() {
         return None;
     }
-    Some(Args::Stored { store, map })
+    Some(Args::LettersOver { store, map })
 }
 
 /// Connections to be served over a store. `None` where an option is missing, the port isn't 1 to

@@ -250,7 +250,7 @@ impl Map {
     pub fn distance(&self, kind: Kind, place: Place, power: Power) -> u16
         ensures { IsDistance self.now kind place power result }
     {
-        self.distances.noted(kind, place, power)
+        self.distances.distance(kind, place, power)
     }
 
     /// The powers, each with its home centres and its units at the opening.

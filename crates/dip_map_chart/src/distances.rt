@@ -46,7 +46,7 @@ impl Distances {
 
     /// The distance from a place to the nearest home centre of a power, for a unit of this kind. It
     /// decides who is removed in disorder.
-    pub fn noted(&self, kind: Kind, place: Place, power: Power) -> u16
+    pub fn distance(&self, kind: Kind, place: Place, power: Power) -> u16
         ensures { result ≡ distance_in self.now kind place power }
     {
         match kind {

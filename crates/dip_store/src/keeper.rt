@@ -68,8 +68,8 @@ impl<S: Alter> SqlKeeper<S> {
         conn
     }
 
-    /// Tells a fault, and counts those of the disk.
-    fn told(&mut self, fault: KeepFault) -> KeepFault
+    /// The fault, which is counted if it is one of the disk.
+    fn count_fault(&mut self, fault: KeepFault) -> KeepFault
         ensures same { result ≡ fault }
         ensures told { self.new ≡ stored.telling fault self.old }
     {
@@ -92,7 +92,7 @@ impl<S: Alter> Keeper for SqlKeeper<S> {
     fn desk(&mut self) -> Result<Desk, KeepFault> {
         match look_desk(&mut self.conn, self.alloc) {
             Ok(desk) => Ok(desk),
-            Err(fault) => Err(self.told(row_fault(fault))),
+            Err(fault) => Err(self.count_fault(row_fault(fault))),
         }
     }
 
@@ -105,7 +105,7 @@ impl<S: Alter> Keeper for SqlKeeper<S> {
                 self.seen.learn(self.alloc, game, &public);
                 Ok(public)
             }
-            Err(fault) => Err(self.told(row_fault(fault))),
+            Err(fault) => Err(self.count_fault(row_fault(fault))),
         }
     }
 
@@ -122,7 +122,7 @@ impl<S: Alter> Keeper for SqlKeeper<S> {
         map.facts();
         match look_digest(&mut self.conn, map, game, power) {
             Ok(digest) => Ok(digest),
-            Err(fault) => Err(self.told(row_fault(fault))),
+            Err(fault) => Err(self.count_fault(row_fault(fault))),
         }
     }
 
@@ -138,7 +138,7 @@ impl<S: Alter> Keeper for SqlKeeper<S> {
                 self.owns.learn(self.alloc, game, &own);
                 Ok(own)
             }
-            Err(fault) => Err(self.told(row_fault(fault))),
+            Err(fault) => Err(self.count_fault(row_fault(fault))),
         }
     }
 
@@ -154,7 +154,7 @@ impl<S: Alter> Keeper for SqlKeeper<S> {
         map.facts();
         match look_items(&mut self.conn, self.alloc, map, game, power, first, most) {
             Ok(items) => Ok(items),
-            Err(fault) => Err(self.told(row_fault(fault))),
+            Err(fault) => Err(self.count_fault(row_fault(fault))),
         }
     }
 
@@ -162,14 +162,14 @@ impl<S: Alter> Keeper for SqlKeeper<S> {
         let known = self.seen.copy_of(self.alloc, game)?;
         match look_whole(&mut self.conn, self.alloc, map, game, known) {
             Ok(whole) => Ok(whole),
-            Err(fault) => Err(self.told(row_fault(fault))),
+            Err(fault) => Err(self.count_fault(row_fault(fault))),
         }
     }
 
     fn paper(&mut self, _map: &Map, game: &str, number: u32) -> Result<Option<String>, KeepFault> {
         match look_game_paper(&mut self.conn, game, number) {
             Ok(paper) => Ok(paper),
-            Err(fault) => Err(self.told(row_fault(fault))),
+            Err(fault) => Err(self.count_fault(row_fault(fault))),
         }
     }
 
@@ -184,7 +184,7 @@ impl<S: Alter> Keeper for SqlKeeper<S> {
         has_widths(change);
         map.facts();
         if !is_writable(map, change) {
-            return Err(self.told(KeepFault::Damaged));
+            return Err(self.count_fault(KeepFault::Damaged));
         }
         let papers = self.seen.forget_replaced(change);
         self.idle.stir_author(self.alloc, change);
@@ -198,7 +198,7 @@ impl<S: Alter> Keeper for SqlKeeper<S> {
                 self.seen.note_after(self.alloc, change, papers.is_some());
                 Ok(())
             }
-            Err(fault) => Err(self.told(row_fault(fault))),
+            Err(fault) => Err(self.count_fault(row_fault(fault))),
         }
     }
 }

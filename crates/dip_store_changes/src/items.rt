@@ -38,7 +38,7 @@ fn rest(words: &[String]) -> &[String]
 
 /// The words with a space between any two; nothing where there are none.
 #[tactic(auto, using(crate::proofs::Joining::words_none))]
-fn joined(alloc: Global, words: &[String]) -> Result<String, AllocError>
+fn words_text(alloc: Global, words: &[String]) -> Result<String, AllocError>
     ensures { IfOk result (λ t. string_bytes t ≡ joined 32 (records.lines words.now)) }
 {
     let mut out = String::new(alloc);
@@ -51,7 +51,7 @@ fn joined(alloc: Global, words: &[String]) -> Result<String, AllocError>
 }
 
 /// The lines, each ended by LF.
-fn ended(alloc: Global, lines: &[String]) -> Result<String, AllocError>
+fn lines_text(alloc: Global, lines: &[String]) -> Result<String, AllocError>
     ensures { IfOk result (λ t. string_bytes t ≡ ended 10 (records.lines lines.now)) }
 {
     let mut out = String::new(alloc);
@@ -81,8 +81,8 @@ pub fn item_texts(alloc: Global, item: &Item) -> Result<ItemTexts, AllocError>
             text,
         } => {
             let writer = String::from_str(alloc, writer.as_str())?;
-            let addressees = joined(alloc, addressees.as_slice())?;
-            let body = ended(alloc, text.as_slice())?;
+            let addressees = words_text(alloc, addressees.as_slice())?;
+            let body = lines_text(alloc, text.as_slice())?;
             Ok(ItemTexts {
                 grey: false,
                 writer,
@@ -92,7 +92,7 @@ pub fn item_texts(alloc: Global, item: &Item) -> Result<ItemTexts, AllocError>
         }
         Item::Grey { to_all, text } => {
             let addressees = String::from_str(alloc, readers_word(*to_all))?;
-            let body = ended(alloc, text.as_slice())?;
+            let body = lines_text(alloc, text.as_slice())?;
             Ok(ItemTexts {
                 grey: true,
                 writer: String::new(alloc),

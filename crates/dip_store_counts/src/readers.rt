@@ -71,7 +71,7 @@ fn is_in(powers: &[Power], power: Power) -> bool
 }
 
 /// The readers whose power is among these, in the order of their seats.
-fn chosen(mut readers: Vec<Reader>, powers: &[Power]) -> Vec<Reader>
+fn readers_among(mut readers: Vec<Reader>, powers: &[Power]) -> Vec<Reader>
     ensures { result.items ≡ filter (λ r. list_any (λ p. p == r.power) powers.now) readers.items }
 {
     readers.retain(|reader| is_in(powers, reader.power));
@@ -105,7 +105,7 @@ pub(crate) fn find_readers<S: Alter>(
         (filter (is_reader map.now game.now powers.now) (tables_in S.Store conn.old).seats))) }
 {
     let rows = list_seats(conn, game)?;
-    let readers = chosen(readers_in(alloc, map, rows.as_slice())?, powers);
+    let readers = readers_among(readers_in(alloc, map, rows.as_slice())?, powers);
     if !have_room(readers.as_slice()) {
         return Err(RowFault::Misfit);
     }

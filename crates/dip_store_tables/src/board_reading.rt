@@ -6,7 +6,7 @@ ghost use Rattle.dip_store_tables.specs.WrittenBoards.{AreOfBoard};
 
 use crate::board_columns::{CentreColumns, UnitColumns};
 use crate::centres::{owners, standoff};
-use crate::units::{fallen, standing};
+use crate::units::{dislodged_units, standing_units};
 use dip_map::{Board, Map, Phase, Season};
 use std::alloc::{AllocError, Global};
 
@@ -48,10 +48,10 @@ pub fn read_board(
     let Some(season) = season_in(season) else {
         return Ok(None);
     };
-    let Some(stand) = standing(alloc, map, units)? else {
+    let Some(stand) = standing_units(alloc, map, units)? else {
         return Ok(None);
     };
-    let Some(fell) = fallen(alloc, map, units)? else {
+    let Some(fell) = dislodged_units(alloc, map, units)? else {
         return Ok(None);
     };
     let Some(closed) = standoff(alloc, map, standoffs)? else {

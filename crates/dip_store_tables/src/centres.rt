@@ -52,7 +52,7 @@ fn front(text: &[u8]) -> &[u8]
     &text[..3]
 }
 
-fn behind(text: &[u8]) -> &[u8]
+fn after_code(text: &[u8]) -> &[u8]
     requires { 4 ≤ length text.now }
     ensures { result.now ≡ drop 4 text.now }
 {
@@ -80,7 +80,7 @@ pub(crate) fn standoff(
         if rest.len() == 3 {
             break;
         }
-        rest = behind(rest);
+        rest = after_code(rest);
     }
     Ok(Some(provs))
 }

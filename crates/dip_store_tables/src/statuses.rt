@@ -80,7 +80,7 @@ fn told_by(
     Ok(None)
 }
 
-fn behind_first(words: &[String]) -> &[String]
+fn without_first(words: &[String]) -> &[String]
     ensures { result.now ≡ drop 1 words.now }
 {
     match words.split_first() {
@@ -103,5 +103,5 @@ pub fn read_status(alloc: Global, map: &Map, text: &str) -> Result<Option<Status
     let Some((word, more)) = words.as_slice().split_first() else {
         return Ok(None);
     };
-    told_by(alloc, map, word.as_str(), behind_first(more))
+    told_by(alloc, map, word.as_str(), without_first(more))
 }

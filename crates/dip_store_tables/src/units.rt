@@ -65,7 +65,7 @@ fn origin_in(map: &Map, origin: &str) -> Option<Option<Prov>>
 }
 
 /// The units that stand, in the order of their rows; none where a row of one isn't a unit's of the map.
-pub(crate) fn standing(
+pub(crate) fn standing_units(
     alloc: Global,
     map: &Map,
     rows: &[UnitColumns],
@@ -87,7 +87,7 @@ pub(crate) fn standing(
 }
 
 /// The dislodged units, likewise.
-pub(crate) fn fallen(
+pub(crate) fn dislodged_units(
     alloc: Global,
     map: &Map,
     rows: &[UnitColumns],

@@ -3,7 +3,7 @@ ghost use Rattle.std.specs.Prelude.{◌↔◌, IsTrue};
 ghost use Rattle.dip_desk_state.specs.ChangeRows as desk_rows;
 ghost use Rattle.dip_store_tables.specs.ChangeColumns.{IsWritable};
 
-use crate::writable_effects::is_effect;
+use crate::writable_effects::is_writable_effect;
 use crate::writable_parts::is_author;
 use crate::writable_texts::lacks;
 use dip_desk_state::Change;
@@ -17,5 +17,5 @@ pub fn is_writable(map: &Map, change: &Change) -> bool
     is_author(map, change.author)
         && change.kept.number != 0
         && lacks(change.game.as_str(), b'\n')
-        && is_effect(map, &change.effect)
+        && is_writable_effect(map, &change.effect)
 }

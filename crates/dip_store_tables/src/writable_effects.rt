@@ -23,7 +23,7 @@ fn is_public(map: &Map, public: &Public) -> bool
 }
 
 /// Whether what the effect names is of the map, and its numbers fit their columns.
-pub(crate) fn is_effect(map: &Map, effect: &Effect) -> bool
+pub(crate) fn is_writable_effect(map: &Map, effect: &Effect) -> bool
     ensures { IsTrue result ↔ (IsEffectOf map.now (desk_rows.effect effect.now)
         × FitsColumns (desk_rows.effect effect.now)) }
 {

@@ -4,7 +4,7 @@ ghost use Rattle.dip_map.specs.Boards.{IsOf};
 ghost use Rattle.dip_turn_phases.specs.Phases as p;
 ghost use Rattle.dip_turn.specs.Reports.{IsMoved, IsAdjusted, LeavesMoved, LeavesRetreated, LeavesAdjusted, Leaves, IsPlayed};
 
-use dip_decide::{meant, resolve};
+use dip_decide::{orders_as_meant, resolve};
 use dip_map::{Board, Map, Season};
 use dip_orders::{Orders, PlacedOrder, each_unit_has_one_order};
 use dip_turn_phases::{
@@ -27,7 +27,7 @@ fn move_units(
     let orders = Orders::standing(alloc, board, pending)?;
     each_unit_has_one_order();
     let resolution = resolve(alloc, map, board, &orders)?;
-    let meant = meant(alloc, map, board, orders.as_slice())?;
+    let meant = orders_as_meant(alloc, map, board, orders.as_slice())?;
     let moved = moved_board(alloc, map, board, &resolution, meant.as_slice())?;
     let lines = movement_lines(
         alloc,

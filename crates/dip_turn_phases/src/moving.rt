@@ -178,7 +178,11 @@ pub(crate) fn may_go(
 }
 
 /// Those of the dislodged units that have a place to retreat to.
-fn spared(alloc: Global, map: &Map, board: &Board) -> Result<Vec<Dislodged>, AllocError>
+fn dislodged_with_retreats(
+    alloc: Global,
+    map: &Map,
+    board: &Board,
+) -> Result<Vec<Dislodged>, AllocError>
     ensures { IfOk result (λ v. v.items ≡ filter (m.may_go map.now board.now) board.now.dislodged) }
 {
     let mut spared = Vec::new(alloc);
@@ -194,7 +198,7 @@ fn spared(alloc: Global, map: &Map, board: &Board) -> Result<Vec<Dislodged>, All
 pub fn without_destroyed(alloc: Global, map: &Map, board: &Board) -> Result<Board, AllocError>
     ensures { IfOk result (λ b. b ≡ m.without_destroyed map.now board.now) }
 {
-    let dislodged = spared(alloc, map, board)?;
+    let dislodged = dislodged_with_retreats(alloc, map, board)?;
     let units = board.units().to_vec(alloc)?;
     let standoff = board.standoff().to_vec(alloc)?;
     let owners = board.owners().to_vec(alloc)?;

@@ -23,7 +23,7 @@ returns c =
     let of : IsOf m (public_noted (Announce lines) p).board = c.requires.of_map in
     let fits : FitsText lines = c.if-not-fits.ensures.fit refl in
     let told : wanted ≡ notice_paper m (Announce lines) (rows.public c.in_ok-after.after) = c.as_str.ensures.value ∙ c.in_ok-wanted.ensures in
-    ok_weaker (IsCompared text wanted (rows.public c.in_ok-after.after)) (IsJudgedNext m p text (IsAnnounced m p lines text)) c.compared.result
+    ok_weaker (IsCompared text wanted (rows.public c.in_ok-after.after)) (IsJudgedNext m p text (IsAnnounced m p lines text)) c.comparison_verdict.result
     (λ v same. judged_where_wanted m p text wanted (rows.public c.in_ok-after.after) (IsAnnounced m p lines text) v same
     (λ right. record {
       room = c.requires.room;
@@ -36,4 +36,4 @@ returns c =
       }));
     })
     (λ new paper. paper.1.told ∙ ap (notice_paper m (Announce lines)) (paper.1.after ∙ sym after) ∙ sym told)
-    (subst (λ (q : Public). IsOf m q.board) (sym after) of)) c.compared.ensures
+    (subst (λ (q : Public). IsOf m q.board) (sym after) of)) c.comparison_verdict.ensures

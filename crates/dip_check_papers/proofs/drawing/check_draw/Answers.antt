@@ -38,7 +38,7 @@ returns c =
     let after : rows.public c.in_ok-after.after ≡ public_drawn powers p = c.in_ok-after.ensures in
     let of : IsOf m (public_drawn powers p).board = c.requires.of_map in
     let told : wanted ≡ draw_paper m (rows.public c.in_ok-after.after) = c.as_str.ensures.value ∙ c.in_ok-wanted.ensures in
-    ok_weaker (IsCompared text wanted (rows.public c.in_ok-after.after)) (IsJudgedNext m p text (IsDraw m p text)) c.compared.result
+    ok_weaker (IsCompared text wanted (rows.public c.in_ok-after.after)) (IsJudgedNext m p text (IsDraw m p text)) c.comparison_verdict.result
     (λ v same. judged_where_wanted m p text wanted (rows.public c.in_ok-after.after) (IsDraw m p text) v same
     (λ right. record {
       room = c.requires.room;
@@ -57,4 +57,4 @@ returns c =
     let read : words ≡ words_in (draw_rest m h.powers p) = ap (map {A = Bor (List ℕ)} {B = List ℕ} (λ w. w.now)) c.as_slice.ensures.value ∙ c.in_ok-words.ensures (draw_rest m h.powers p) begins in
     let drawn : powers ≡ h.powers = c.in_ok-powers.ensures ∙ ap (λ (b : Position). sharers m b words) c.deref.ensures ∙ ap (sharers m p.board) read ∙ sharers_of m p h.powers c.facts.ensures h.named h.survive in
     h.told ∙ ap (draw_paper m) (h.after ∙ ap (λ s. public_drawn s p) (sym drawn) ∙ sym after) ∙ sym told)
-    (subst (λ (q : Public). IsOf m q.board) (sym after) of)) c.compared.ensures
+    (subst (λ (q : Public). IsOf m q.board) (sym after) of)) c.comparison_verdict.ensures

@@ -21,7 +21,7 @@ returns c =
     let after : rows.public c.in_ok-after.after ≡ public_noted notice p = c.in_ok-after.ensures in
     let of : IsOf m (public_noted notice p).board = c.requires.of_map in
     let told : wanted ≡ notice_paper m notice (rows.public c.in_ok-after.after) = c.as_str.ensures.value ∙ c.in_ok-wanted.ensures in
-    ok_weaker (IsCompared text wanted (rows.public c.in_ok-after.after)) (IsJudgedNext m p text (IsNoted m p notice text)) c.compared.result
+    ok_weaker (IsCompared text wanted (rows.public c.in_ok-after.after)) (IsJudgedNext m p text (IsNoted m p notice text)) c.comparison_verdict.result
     (λ v same. judged_where_wanted m p text wanted (rows.public c.in_ok-after.after) (IsNoted m p notice text) v same
     (λ right. record {
       room = c.requires.room;
@@ -34,4 +34,4 @@ returns c =
       }));
     })
     (λ new paper. paper.told ∙ ap (notice_paper m notice) (paper.after ∙ sym after) ∙ sym told)
-    (subst (λ (q : Public). IsOf m q.board) (sym after) of)) c.compared.ensures
+    (subst (λ (q : Public). IsOf m q.board) (sym after) of)) c.comparison_verdict.ensures

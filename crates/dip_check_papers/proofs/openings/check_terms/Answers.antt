@@ -28,7 +28,7 @@ returns c =
     h.after ∙ sym (is ∙ same_opening m c.args.game.now h.game c.due_told-due.result h.due c.period_told-period.result h.period
     c.says_yes-grey.result h.grey c.says_yes-intent.result h.intent (c.requires.game ∙ said.named) (c.due_told-due.ensures.told h.due h.timely said.tick)
     (c.period_told-period.ensures.told h.period h.least h.most said.ticks) (c.says_yes-grey.ensures ∙ said.says_grey) (c.says_yes-intent.ensures ∙ said.says_intent)) in
-    ok_weaker (IsCompared text wanted after) (IsJudgedFirst m text) c.compared.result
+    ok_weaker (IsCompared text wanted after) (IsJudgedFirst m text) c.comparison_verdict.result
     (λ v same. judged_first_where_wanted m text wanted after v same
     (λ right. record {
       game = c.args.game.now;
@@ -45,4 +45,4 @@ returns c =
     })
     (λ new h. h.told ∙ ap (opening_paper m) (agree text new h (opening_read m text new h)) ∙ sym told)
     (λ paper new h. subst (λ w. first_other text paper ≤ first_other text w) (sym told) (openings_furthest m text paper new after h (agree paper new h)))
-    (subst (λ (q : Public). IsOf m q.board) (sym is) (of_intent m _ _ (c.openings_are_of_their_map.ensures m c.facts.ensures)))) c.compared.ensures
+    (subst (λ (q : Public). IsOf m q.board) (sym is) (of_intent m _ _ (c.openings_are_of_their_map.ensures m c.facts.ensures)))) c.comparison_verdict.ensures

@@ -10,4 +10,4 @@ returns c =
     let line = c.line_after.ensures ∙ ap (λ (l : List ℕ). line_after l) c.within_most.ensures in
     let text = c.as_str.ensures.value ∙ c.in_ok-text.ensures
     ∙ ap (λ (n : ℕ). codes " is too long: line " ++ (decimal n ++ codes " goes past 1048576 bytes\n")) line in
-    on_ok _ _ c.titled.result c.titled.ensures (λ told is. is ∙ ap (λ (l : List ℕ). title_in c.args.paper.now ++ l) text)
+    on_ok _ _ c.text_under_title.result c.text_under_title.ensures (λ told is. is ∙ ap (λ (l : List ℕ). title_in c.args.paper.now ++ l) text)

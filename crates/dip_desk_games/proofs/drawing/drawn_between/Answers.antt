@@ -13,4 +13,4 @@ returns c =
     let drawn : d.agreed c.as_slice.result.now (map (λ o. rows.own o) c.as_slice-2.result.now) ≡ d.drawn_between m (rows.whole c.args.whole.now) =
     ap (λ (ps : List ℕ). d.agreed ps (map (λ o. rows.own o) c.as_slice-2.result.now)) survive
     ∙ ap (λ (os : List Own). d.agreed (d.survivors m b) (map (λ o. rows.own o) os)) c.as_slice-2.ensures.value in
-    subst (λ (x : Option (List ℕ)). IfOk c.agreed.result (λ found. option_map (λ v. v.items) found ≡ x)) drawn c.agreed.ensures
+    subst (λ (x : Option (List ℕ)). IfOk c.agreed_powers.result (λ found. option_map (λ v. v.items) found ≡ x)) drawn c.agreed_powers.ensures

@@ -19,11 +19,11 @@ returns-in-Init g c =
       lasts = does.lasts;
     })
 
-pub returns-in-Stored : goal.returns-in-Stored
-returns-in-Stored g c =
-    let does = c.do_over_file-in-Stored.ensures in
-    let r = c.do_over_file-in-Stored.result.0 in
-    does_as over_files (image_at g.S.Start) c.args.map.now c.args.text.now _ _ _ _ c.args.args.now _ r c.do_over_file-in-Stored.result.1 c.in-Stored.is
+pub returns-in-LettersOver : goal.returns-in-LettersOver
+returns-in-LettersOver g c =
+    let does = c.do_over_file-in-LettersOver.ensures in
+    let r = c.do_over_file-in-LettersOver.result.0 in
+    does_as over_files (image_at g.S.Start) c.args.map.now c.args.text.now _ _ _ _ c.args.args.now _ r c.do_over_file-in-LettersOver.result.1 c.in-LettersOver.is
     (record {
       done = read_to_end _ _ _ _ r does.reads;
       failed = read_up_to _ _ _ _ r does.reads;

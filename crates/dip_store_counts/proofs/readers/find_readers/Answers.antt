@@ -15,8 +15,8 @@ use Rattle.dip_store_counts.proofs.readers.find_readers.Goals as goal
 
 pub returns-clause-value : goal.returns-clause-value
 returns-clause-value g c kept clean =
-    readers_found c.args.map.now c.args.game.now c.args.powers.now (tables_in g.S.Store c.args.conn.now).seats c.as_slice.result.now c.in_ok-readers_in.field-0.items c.chosen-readers.result.items
-    (c.as_slice.ensures.value ∙ c.in_ok-rows.ensures.value kept clean) c.in_ok-readers_in.ensures.shown c.in_ok-readers_in.ensures.names c.chosen-readers.ensures
+    readers_found c.args.map.now c.args.game.now c.args.powers.now (tables_in g.S.Store c.args.conn.now).seats c.as_slice.result.now c.in_ok-readers_in.field-0.items c.readers_among-readers.result.items
+    (c.as_slice.ensures.value ∙ c.in_ok-rows.ensures.value kept clean) c.in_ok-readers_in.ensures.shown c.in_ok-readers_in.ensures.names c.readers_among-readers.ensures
 
 pub returns-in_err-readers_in-clause-fails : goal.returns-in_err-readers_in-clause-fails
 returns-in_err-readers_in-clause-fails g c kept shows clean ours =
@@ -28,8 +28,8 @@ returns-in_err-readers_in-clause-fails g c kept shows clean ours =
 pub returns-then-not-have_room-clause-fails : goal.returns-then-not-have_room-clause-fails
 returns-then-not-have_room-clause-fails g c kept shows clean ours = λ room.
     let m = c.args.map.now in
-    let are = readers_found m c.args.game.now c.args.powers.now (tables_in g.S.Store c.args.conn.now).seats c.as_slice.result.now c.in_ok-readers_in.field-0.items c.chosen-readers.result.items
-    (c.as_slice.ensures.value ∙ c.in_ok-rows.ensures.value kept clean) c.in_ok-readers_in.ensures.shown c.in_ok-readers_in.ensures.names c.chosen-readers.ensures in
+    let are = readers_found m c.args.game.now c.args.powers.now (tables_in g.S.Store c.args.conn.now).seats c.as_slice.result.now c.in_ok-readers_in.field-0.items c.readers_among-readers.result.items
+    (c.as_slice.ensures.value ∙ c.in_ok-rows.ensures.value kept clean) c.in_ok-readers_in.ensures.shown c.in_ok-readers_in.ensures.names c.readers_among-readers.ensures in
     let all = All-from_recursion _ _ (readers_room m c.args.game.now _ _ are room) in
     let yes = c.have_room.ensures.full (subst (λ (rs : List Reader). All (λ r. r.items < most_items) rs) (sym c.as_slice-2.ensures.value) all) in
     search (rules, yes)

@@ -16,8 +16,8 @@ returns-clause-value c =
     let split : c.in_ok-words.words.items ≡ c.in-Some.word.now ∷ c.in-Some.more.now = search rules in
     let cut : pieces 32 c.args.text.now ≡ string_bytes c.in-Some.word.now ∷ rows.lines c.in-Some.more.now = sym c.in_ok-words.ensures ∙ ap rows.lines split in
     let word : c.as_str.result.now ≡ string_bytes c.in-Some.word.now = c.as_str.ensures.value in
-    let names : rows.lines c.behind_first.result.now ≡ drop 1 (rows.lines c.in-Some.more.now) = ap rows.lines c.behind_first.ensures ∙ lines_behind c.in-Some.more.now in
-    let same : status_of c.args.map.now c.args.text.now ≡ status_in c.args.map.now c.as_str.result.now (rows.lines c.behind_first.result.now) =
+    let names : rows.lines c.without_first.result.now ≡ drop 1 (rows.lines c.in-Some.more.now) = ap rows.lines c.without_first.ensures ∙ lines_behind c.in-Some.more.now in
+    let same : status_of c.args.map.now c.args.text.now ≡ status_in c.args.map.now c.as_str.result.now (rows.lines c.without_first.result.now) =
     status_told c.args.map.now c.args.text.now (string_bytes c.in-Some.word.now) (rows.lines c.in-Some.more.now) cut
     ∙ ap₂ (status_in c.args.map.now) (sym word) (sym names) in
     rw same c.told_by.ensures.value
@@ -27,7 +27,7 @@ returns-clause-none c =
     let split : c.in_ok-words.words.items ≡ c.in-Some.word.now ∷ c.in-Some.more.now = search rules in
     let cut : pieces 32 c.args.text.now ≡ string_bytes c.in-Some.word.now ∷ rows.lines c.in-Some.more.now = sym c.in_ok-words.ensures ∙ ap rows.lines split in
     let word : c.as_str.result.now ≡ string_bytes c.in-Some.word.now = c.as_str.ensures.value in
-    let names : rows.lines c.behind_first.result.now ≡ drop 1 (rows.lines c.in-Some.more.now) = ap rows.lines c.behind_first.ensures ∙ lines_behind c.in-Some.more.now in
+    let names : rows.lines c.without_first.result.now ≡ drop 1 (rows.lines c.in-Some.more.now) = ap rows.lines c.without_first.ensures ∙ lines_behind c.in-Some.more.now in
     ok_as c.told_by.result
     (λ o. none_as o (λ never said.
     never (rw (word, names) (told c.args.map.now c.facts.ensures c.args.text.now (string_bytes c.in-Some.word.now) (rows.lines c.in-Some.more.now) cut said))))

@@ -34,7 +34,7 @@ returns-in-Err g c =
     let lies : c.as_slice.result.now ≡ c.take-owns.result.items = search rules in
     let known : c.known_author-author.result ≡ known_among it.author (owns_of it.game c.args.self.now.owns) = c.known_author-author.ensures ∙ ap (known_among it.author) (ap (map (λ (o : Own). rows.own o)) lies ∙ c.take-owns.ensures.taken ∙ ap (λ (name : List ℕ). owns_of name c.args.self.now.owns) c.as_str.ensures.value) in
     let has = knows g.S.Store m c.args.self.now it (c.own_is_found.ensures m c.facts.ensures) fits.0.author c.known_author-author.result c.forget_replaced-papers.result known c.forget_replaced-papers.ensures.was in
-    rw (c.told-in-Err.ensures.same, c.told-in-Err.ensures.told, c.row_fault.ensures)
+    rw (c.count_fault-in-Err.ensures.same, c.count_fault-in-Err.ensures.told, c.row_fault.ensures)
     (changes_ill g.S.Store m c.args.self.now it c.make.new.conn (c.changes_are_made.ensures m c.facts.ensures) fits c.has_widths.ensures c.forget_replaced-papers.new.self (heeded it c.args.self.now.seen c.forget_replaced-papers.new.self c.forget_replaced-papers.ensures.left) c.take-owns.new.self c.stir_author.new.self _ _ c.in-Err.fault
     (λ s. (left_recalls s c.as_str.result.now c.args.self.now.owns c.take-owns.new.self c.take-owns.ensures.left, idle_before it c.args.self.now.idle c.stir_author.new.self c.stir_author.ensures s)) c.has_texts.ensures (c.tables_stay_legible.ensures m) (c.tables_stay_counted.ensures m)
     (λ keeps. c.in-Err.ensures.landed (has keeps)) g.met.S.Store.settled (c.what_fits_finds_place.ensures m)
@@ -44,6 +44,6 @@ pub returns-then-not-is_writable : goal.returns-then-not-is_writable
 returns-then-not-is_writable g c =
     let m = c.args.map.now in
     let it = machine.change c.args.change.now in
-    rw (c.told.ensures.same, c.told.ensures.told)
+    rw (c.count_fault.ensures.same, c.count_fault.ensures.told)
     (changes_none g.S.Store m c.args.self.now it _ (c.what_fits_can_be_written.ensures m)
     (λ fits. absurd (let x = sym c.if-not-is_writable.true ∙ c.is_writable.ensures.1 fits in cc)))

@@ -27,5 +27,5 @@ returns-in-Ok g c =
 pub returns-in-Err : goal.returns-in-Err
 returns-in-Err g c =
     let m = c.args.map.now in
-    rw (c.told.ensures.same, c.told.ensures.told, c.row_fault.ensures)
+    rw (c.count_fault.ensures.same, c.count_fault.ensures.told, c.row_fault.ensures)
     (looks_ill g.S.Store m c.args.self.now c.look_digest.new.conn _ _ c.in-Err.fault _ c.in-Err.ensures.selects c.in-Err.ensures.own)

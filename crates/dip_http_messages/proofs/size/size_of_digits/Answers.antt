@@ -2,7 +2,7 @@ use Rattle.std.proofs.Common.{◌<◌, arith}
 use Rattle.std.specs.Str.Parse.{digits_value}
 use Rattle.std.proofs.lemmas.Bool.Decides.{nat_tests}
 use Rattle.dip_http_messages.proofs.HeadNumbers.{digit_at, one_more}
-use Rattle.dip_http_messages.proofs.size.limited.Goals as goal
+use Rattle.dip_http_messages.proofs.size.size_of_digits.Goals as goal
 
 pub overflow_sub-digit : goal.overflow_sub-digit
 overflow_sub-digit c = (digit_at c.args.digits.now c.digits.digit-index c.requires c.digits-test.true).0

@@ -1,7 +1,7 @@
 use Rattle.std.proofs.Common.{arith, ◌++◌, codes, ap, ap₂, flat_map, string_bytes, ◌∙◌}
 use Rattle.dip_desk_state.specs.Rows as records
 use Rattle.dip_store_changes.proofs.Joining.{words_joined}
-use Rattle.dip_store_changes.proofs.items.joined.Goals as goal
+use Rattle.dip_store_changes.proofs.items.words_text.Goals as goal
 
 pub returns : goal.returns
 returns c =

@@ -3,8 +3,8 @@ use Rattle.std.proofs.lemmas.Bool.{eqb-true}
 use Rattle.dip_desk_state.specs.ChangeRows as desk_rows
 use Rattle.dip_desk_state.specs.Rows as rows
 use Rattle.dip_store_tables.proofs.Mapped.{each_told}
-use Rattle.dip_store_tables.proofs.writable_effects.is_effect.Goals as goal
-use Rattle.dip_store_tables.proofs.writable_effects.is_effect.Goals.{then-is_public, else-is_public}
+use Rattle.dip_store_tables.proofs.writable_effects.is_writable_effect.Goals as goal
+use Rattle.dip_store_tables.proofs.writable_effects.is_writable_effect.Goals.{then-is_public, else-is_public}
 
 pub returns-in-Pending : goal.returns-in-Pending
 returns-in-Pending c =

@@ -1,7 +1,7 @@
 use Rattle.std.proofs.Common.{◌≡◌, ◌≤◌, drop, length}
 use Rattle.dip_decide_table.specs.Rows.{rows_of}
 use Rattle.dip_decide_table.specs.Placed.{backings_among, entry}
-use Rattle.dip_decide_table.proofs.table.backed.Given as goal
+use Rattle.dip_decide_table.proofs.table.backings.Given as goal
 
 abbrev pub invariant-loop-left : goal.invariant-loop-left
 invariant-loop-left l = record {

@@ -5,7 +5,7 @@ use Rattle.dip_decide_rules.specs.Meaning.{situation_on}
 use Rattle.dip_decide_rules.specs.Movement.{IsSituation, Situation, rule}
 use Rattle.dip_decide_rules.proofs.Rounds.{if_ok_more}
 use Rattle.dip_decide.proofs.ResultLaws.{situated_on, within}
-use Rattle.dip_decide.proofs.testing.forced.Goals as goal
+use Rattle.dip_decide.proofs.testing.forced_value.Goals as goal
 
 -- what holds of an answer over any ground holds over the one that there is; where there is none, there is no answer
 by_ground : {G X E : Type 0} (at : G → Situation) (s : Situation) (P : Situation → X → Type 0) (ground : Result G E) (result : Result X E)

@@ -2,7 +2,7 @@ use Rattle.std.proofs.Common.{◌∙◌, None, arith, ap, refl}
 use Rattle.std.specs.List.{slice_set}
 use Rattle.dip_decide_table.specs.Placed.{backed_of, entry}
 use Rattle.dip_decide_table.proofs.Columns.{names_first, names_step}
-use Rattle.dip_decide_table.proofs.table.backed.Goals as goal
+use Rattle.dip_decide_table.proofs.table.backings.Goals as goal
 
 pub loop-left-init : goal.loop-left-init
 loop-left-init c = record {

@@ -1,10 +1,11 @@
 //! Papers that are checked, or explained.
 ghost use Rattle.std.specs.Prelude.{IfErr, OnOk, true};
 ghost use Rattle.dip_check_runs.specs.Runs.{IsChecked, IsExplained, TellsIfGame};
-ghost use Rattle.dip_judge_system.specs.Checking.{FailsCheck, FailsExplaining};
+ghost use Rattle.dip_judge.specs.Checking.{FailsCheck, FailsExplaining};
 
-use crate::failures::Failure;
-use dip_check_runs::{Progress, check_papers, explain_paper};
+use dip_check_papers::Progress;
+use dip_check_runs::{check_papers, explain_paper};
+use dip_judge_system::Failure;
 use dip_map::Map;
 use std::alloc::Global;
 use std::io::{Read, Write};
@@ -13,7 +14,7 @@ use std::io::{Read, Write};
 ///
 /// # Errors
 /// `Negative`, and what isn't was written; or what `check_papers` has.
-pub fn check<R: Read, W: Write, P: Progress>(
+pub(crate) fn check<R: Read, W: Write, P: Progress>(
     alloc: Global,
     reader: &mut R,
     writer: &mut W,
@@ -37,7 +38,7 @@ pub fn check<R: Read, W: Write, P: Progress>(
 ///
 /// # Errors
 /// `Negative`, and why there is no explanation was written; or what `explain_paper` has.
-pub fn explain<R: Read, W: Write>(
+pub(crate) fn explain<R: Read, W: Write>(
     alloc: Global,
     reader: &mut R,
     writer: &mut W,

@@ -7,10 +7,10 @@ use Rattle.dip_desk_games.specs.Ticking.{by_power, orders_of, orders_of_seats}
 use Rattle.dip_desk_state.specs.Rows as rows
 use Rattle.dip_desk_state.specs.declared.records.Own.{Own}
 use Rattle.dip_turn.specs.Reports.{IsPlayed}
-use Rattle.dip_desk_machine.proofs.ticking.adjudicated.Goals as goal
+use Rattle.dip_desk_machine.proofs.ticking.phase_verdict.Goals as goal
 
-pub returns-in_ok-published-in-Ok-clause-value : goal.returns-in_ok-published-in-Ok-clause-value
-returns-in_ok-published-in-Ok-clause-value c =
+pub returns-in_ok-paper_verdict-in-Ok-clause-value : goal.returns-in_ok-paper_verdict-in-Ok-clause-value
+returns-in_ok-paper_verdict-in-Ok-clause-value c =
     let map_now = c.args.map.now in
     let lies : c.deref.result.now ≡ c.args.whole.public.board.value = search rules in
     let same : c.in_ok-before.before ≡ c.args.whole.public.board.value = c.in_ok-before.ensures ∙ lies in
@@ -22,5 +22,5 @@ returns-in_ok-published-in-Ok-clause-value c =
       report = c.in-Ok.report;
       played = subst (λ (b : Position). IsPlayed map_now b (orders_of map_now (rows.whole c.args.whole)) c.in-Ok.board c.in-Ok.report) same
           (subst (λ (os : List PlacedOrder). IsPlayed map_now c.in_ok-before.before os c.in-Ok.board c.in-Ok.report) orders c.in-Ok.ensures.played);
-      verdict = c.in_ok-published-in-Ok.ensures ∙ ap (λ (p : Public). paper_verdict map_now c.in-Ok.report p) c.in_ok-after-in-Ok.ensures;
+      verdict = c.in_ok-paper_verdict-in-Ok.ensures ∙ ap (λ (p : Public). paper_verdict map_now c.in-Ok.report p) c.in_ok-after-in-Ok.ensures;
     }

@@ -7,7 +7,7 @@ use std::fmt;
 pub enum CheckFault {
     /// The reader failed, otherwise than by a signal that interrupts it.
     Read,
-    /// A paper has more than `MOST_PAPER` bytes.
+    /// A paper has more bytes than a check reads of one.
     TooLong,
     /// The writer failed, otherwise than by a signal that interrupts it.
     Write,
@@ -16,7 +16,7 @@ pub enum CheckFault {
 }
 
 impl fmt::Display for CheckFault {
-    ghost use Rattle.dip_check_runs.specs.Faults.{check_fault_name};
+    ghost use Rattle.dip_check_papers.specs.Faults.{check_fault_name};
     ghost use Rattle.std.specs.Prelude.{Some};
 
     ghost output = { λ fault. Some (check_fault_name fault) };
